@@ -1,34 +1,22 @@
 -- The row of a block, and a block at another linear address and with another size, in the memory.
 use Rattle.std.proofs.Common.{◌≡◌, ◌≢◌, ℕ, suc, ◌+◌, ◌-◌, ◌*◌, List, length, length-set, slice_index_or, slice_set, refl, ap, ◌∙◌, sym}
-use Rattle.std.proofs.Common.{subst, arith, Option, None, Some}
+use Rattle.std.proofs.{Common.{subst, arith, Option, None, Some}, lemmas.Bool.{ne_eqb}, lemmas.List.{length-append, length-take}}
+use Rattle.std.proofs.lemmas.List.{set-get_or}
 use Rattle.std.specs.Prelude.{min}
-use Rattle.std.proofs.lemmas.Bool.{ne_eqb}
-use Rattle.std.proofs.lemmas.List.{length-append, length-take, set-get_or}
 use Rattle.client_world.specs.declared.host_frames.TheConstants.{PAGE_SIZE, BLOCK_ROWS, BLOCK_TABLES, LOCK_COUNTS, BLOCK_ROW_SIZE}
-use Rattle.client_world.specs.declared.host_frames.TheConstants.{LOCK_COUNT_SIZE, PAGE_ENTRY_SIZE}
-use Rattle.client_world.specs.Access.{HasByte, bytes_of_block}
-use Rattle.client_world.specs.Soundness.{SoundBlocks, pages_of_block}
-use Rattle.client_world.specs.World.{MemoryBlock, base_of_block}
+use Rattle.client_world.specs.{declared.host_frames.TheConstants.{LOCK_COUNT_SIZE, PAGE_ENTRY_SIZE}, Access.{HasByte, bytes_of_block}}
+use Rattle.client_world.specs.{Soundness.{SoundBlocks, pages_of_block}, World.{MemoryBlock, base_of_block}}
 use Rattle.guest_ram.specs.Bytes.{dword}
 use Rattle.guest_ram.proofs.ListedLaws.{length-zeros}
-use Rattle.host_memory.specs.Holds.{Holds}
-use Rattle.host_memory.specs.Layout.{handles_part, pages_of}
-use Rattle.host_memory.proofs.BlockRows.{row_there, held_base}
-use Rattle.host_memory.proofs.Parts.{parts_of}
+use Rattle.host_memory.specs.{Holds.{Holds}, Layout.{handles_part, pages_of}}
+use Rattle.host_memory.proofs.{BlockRows.{row_there, held_base}, Parts.{parts_of}}
 use Rattle.block_memory.specs.BlockChanges.{blocks_held, CanHoldIn, CanMoveIn, CanSizeIn, HasBlockIn, HasPagesIn, ReplacesBlock, with_at}
-use Rattle.block_memory.specs.BlockSizes.{CanHold, CanMove, HasPages, at_base, block_with_zero_pages, sized_block, shorter}
-use Rattle.block_memory.specs.BlockSizes.{after_slide}
+use Rattle.block_memory.specs.BlockSizes.{CanHold, CanMove, HasPages, at_base, block_with_zero_pages, sized_block, shorter, after_slide}
 use Rattle.block_memory.proofs.BlockSteps.{becomes, for_budget, held_still, held_there, one_budget, ranges_held, replaced_at, same_blocks}
-use Rattle.block_memory.proofs.MoveWrites.{moved, moved_changes}
-use Rattle.block_memory.proofs.PageChanges.{block_reads}
-use Rattle.block_memory.proofs.PageCounts.{pages_of_row}
-use Rattle.block_memory.proofs.PageMore.{first_page}
-use Rattle.block_memory.proofs.PageParts.{block_parts}
-use Rattle.block_memory.proofs.PageWrites.{with_block_row}
-use Rattle.block_memory.proofs.RowReads.{row_base_read, row_pages_read}
-use Rattle.block_memory.proofs.SizedBlocks.{shorter_none}
-use Rattle.block_memory.proofs.SizedCalls.{Sizing, cut_blocks, moved_blocks, can_move, can_extend, sized_blocks}
-use Rattle.block_memory.proofs.SizedSound.{length-bytes, moved_sound, moved_fits}
+use Rattle.block_memory.proofs.{MoveWrites.{moved, moved_changes}, PageChanges.{block_reads}, PageCounts.{pages_of_row}}
+use Rattle.block_memory.proofs.{PageMore.{first_page}, PageParts.{block_parts}, PageWrites.{with_block_row}, RowReads.{row_base_read}}
+use Rattle.block_memory.proofs.{RowReads.{row_pages_read}, SizedBlocks.{shorter_none}, SizedCalls.{Sizing, cut_blocks, moved_blocks}}
+use Rattle.block_memory.proofs.{SizedCalls.{can_move, can_extend, sized_blocks}, SizedSound.{length-bytes, moved_sound, moved_fits}}
 
 -- a block that is held has a page
 some_pages : (blocks : List (Option MemoryBlock)) (budget place : ℕ) → SoundBlocks blocks budget → (o : Option MemoryBlock) →

@@ -1,22 +1,18 @@
 -- The blocks of two states that differ in one page: the block that has it has one page more in the second one, and the others are the same.
 use Rattle.std.proofs.Common.{◌≡◌, ◌≢◌, ℕ, ◌+◌, ◌-◌, ◌*◌, ◌/◌, ◌<◌, ◌≤◌, inl, inr, List, ◌++◌, length, get_or, take, slice_index, slice_set}
-use Rattle.std.proofs.Common.{refl, ap, ◌∙◌, sym, arith, Option, Some}
-use Rattle.std.proofs.lemmas.Bool.{cases_eq, eq-eqb, ne_eqb}
+use Rattle.std.proofs.{Common.{refl, ap, ◌∙◌, sym, arith, Option, Some}, lemmas.Bool.{cases_eq, eq-eqb, ne_eqb}}
 use Rattle.std.proofs.lemmas.List.{nil_from_length, length-append, length-take-le, get_or-take, get_or_append_left, get_or-append_right}
 use Rattle.std.proofs.lemmas.Grind.{same_number_lists}
-use Rattle.client_world.specs.declared.host_frames.TheConstants.{PAGE_SIZE, BUDGET_FRAMES}
-use Rattle.client_world.specs.declared.limits.TheConstants.{MAX_BLOCKS}
-use Rattle.client_world.specs.declared.memory_map.TheConstants.{BLOCK_REGION_PAGES}
-use Rattle.client_world.specs.Access.{bytes_of_block}
-use Rattle.client_world.specs.World.{MemoryBlock}
+use Rattle.client_world.specs.{declared.host_frames.TheConstants.{PAGE_SIZE, BUDGET_FRAMES}, declared.limits.TheConstants.{MAX_BLOCKS}}
+use Rattle.client_world.specs.{declared.memory_map.TheConstants.{BLOCK_REGION_PAGES}, Access.{bytes_of_block}, World.{MemoryBlock}}
 use Rattle.guest_ram.specs.Listed.{listed, zeros}
 use Rattle.guest_ram.proofs.ListedLaws.{length-listed, at_listed, same_listed, listed-set, length-zeros, at_zeros}
 use Rattle.block_memory.specs.BlockSizes.{locks_of_block, longer, shorter}
 use Rattle.host_memory.specs.Layout.{base_of, pages_of, first_page_of, entry_of, lock_of, page_byte, held_block, block_in, blocks_in}
 use Rattle.host_memory.specs.Tables.{HasBlockEntries, NamesBudgetFrame}
 use Rattle.host_memory.proofs.BlockRows.{row_there, row_free, held_base}
-use Rattle.block_memory.proofs.PageMore.{BlockParts, HasPageMore, AgreesBeside, region_page, first_page, budget_entry, page_inside, is_away}
-use Rattle.block_memory.proofs.PageMore.{first_new, first_old, first_other}
+use Rattle.block_memory.proofs.PageMore.{BlockParts, HasPageMore, AgreesBeside, region_page, first_page, page_inside, is_away, first_new}
+use Rattle.block_memory.proofs.PageMore.{first_old, first_other}
 
 -- the block of a handle less 1, in a state
 abbrev pub block_of : BlockParts → ℕ → Option MemoryBlock

@@ -1,20 +1,16 @@
 -- Two states of the block region between which a block moves to another linear address: its entries and lock counts go along, whether or
 -- not its pages before and after have some in common. Its bytes stay where they are.
 use Rattle.std.proofs.Common.{◌≡◌, ◌≢◌, ℕ, ◌+◌, ◌-◌, ◌*◌, ◌/◌, ◌%◌, ◌<◌, ◌≤◌, ◌⊎◌, inl, inr, List, slice_index, slice_set, ap, ◌∙◌, sym}
-use Rattle.std.proofs.Common.{subst, arith, Some}
-use Rattle.std.proofs.lemmas.Bool.{cases_eq, cases_lt}
-use Rattle.client_world.specs.declared.host_frames.TheConstants.{PAGE_SIZE, BUDGET_FRAMES}
-use Rattle.client_world.specs.declared.limits.TheConstants.{MAX_BLOCKS}
-use Rattle.client_world.specs.declared.memory_map.TheConstants.{BLOCK_REGION_PAGES}
-use Rattle.client_world.specs.Access.{bytes_of_block}
+use Rattle.std.proofs.{Common.{subst, arith, Some}, lemmas.Bool.{cases_eq, cases_lt}}
+use Rattle.client_world.specs.{declared.host_frames.TheConstants.{PAGE_SIZE, BUDGET_FRAMES}, declared.limits.TheConstants.{MAX_BLOCKS}}
+use Rattle.client_world.specs.{declared.memory_map.TheConstants.{BLOCK_REGION_PAGES}, Access.{bytes_of_block}}
 use Rattle.guest_ram.proofs.ListedLaws.{same_listed, listed-set}
 use Rattle.block_memory.specs.BlockSizes.{locks_of_block, at_base}
-use Rattle.host_memory.specs.Holds.{KeepsLocks}
-use Rattle.host_memory.specs.Layout.{base_of, pages_of, first_page_of, entry_of, lock_of, page_byte, held_block}
+use Rattle.host_memory.specs.{Holds.{KeepsLocks}, Layout.{base_of, pages_of, first_page_of, entry_of, lock_of, page_byte, held_block}}
 use Rattle.host_memory.specs.Tables.{HasBlockEntries, NamesBudgetFrame, NamesFrame, IsOutside}
-use Rattle.block_memory.proofs.BlockMore.{block_of, blocks_of, bytes_are, locks_are, block_is}
+use Rattle.block_memory.proofs.{BlockMore.{block_of, blocks_of, bytes_are, locks_are, block_is}, PageMore.{BlockParts, first_page}}
+use Rattle.block_memory.proofs.PageMore.{budget_entry}
 use Rattle.host_memory.proofs.BlockRows.{IsRange, row_there, row_free}
-use Rattle.block_memory.proofs.PageMore.{BlockParts, first_page, budget_entry}
 
 -- a page is one of n from a first one on, or isn't
 

@@ -1,15 +1,12 @@
 -- Pages added to a block, or removed from it, one after another.
 use Rattle.std.proofs.Common.{◌≡◌, ℕ, ◌+◌, ◌-◌, ◌<◌, ◌≤◌, List, length, slice_index_or, slice_set, length-set, ap, ◌∙◌, sym, subst, arith}
-use Rattle.std.proofs.Common.{Option, None, Some}
-use Rattle.std.proofs.lemmas.Bool.{eq-eqb, ne_eqb}
-use Rattle.std.proofs.lemmas.List.{length-append}
-use Rattle.client_world.specs.Access.{HasByte}
-use Rattle.client_world.specs.World.{MemoryBlock}
+use Rattle.std.proofs.{Common.{Option, None, Some}, lemmas.Bool.{eq-eqb, ne_eqb}, lemmas.List.{length-append}}
+use Rattle.client_world.specs.{Access.{HasByte}, World.{MemoryBlock}}
 use Rattle.host_memory.specs.Holds.{Holds}
 use Rattle.block_memory.specs.BlockChanges.{blocks_held, CanHoldIn, HasPagesIn, ReplacesBlock, ReplacesBlocks, with_at}
 use Rattle.block_memory.specs.BlockSizes.{CanHold, HasPages, block_with_zero_pages, longer, shorter}
-use Rattle.block_memory.proofs.BlockSteps.{becomes, for_budget, held_there, replaced_by, same_blocks}
-use Rattle.block_memory.proofs.SizedBlocks.{start_longer, step_longer, start_shorter, step_shorter, shorter_next, shorter_byte}
+use Rattle.block_memory.proofs.{BlockSteps.{becomes, for_budget, held_there, replaced_by, same_blocks}, SizedBlocks.{start_longer}}
+use Rattle.block_memory.proofs.SizedBlocks.{step_longer, start_shorter, step_shorter, shorter_next, shorter_byte}
 use Rattle.block_memory.proofs.SizedSound.{can_hold_next, has_pages_next}
 
 -- one page more is asked

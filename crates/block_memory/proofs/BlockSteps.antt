@@ -1,40 +1,28 @@
 -- A change of the blocks of a memory: one after another, and a page added to a block or removed from it.
 use Rattle.std.proofs.Common.{◌≡◌, ◌≢◌, ℕ, zero, suc, ◌+◌, ◌*◌, ◌-◌, ◌<◌, inl, inr, true, List, length, slice_index_or, slice_set, ap, ◌∙◌}
-use Rattle.std.proofs.Common.{sym, subst, arith, Option, None, Some, get_or-set_same, get_or-set_other}
-use Rattle.std.proofs.lemmas.Bool.{cases_eq}
+use Rattle.std.proofs.{Common.{sym, subst, arith, Option, None, Some, get_or-set_same, get_or-set_other}, lemmas.Bool.{cases_eq}}
 use Rattle.std.proofs.lemmas.List.{set-get_or}
 use Rattle.client_world.specs.declared.host_frames.TheConstants.{PAGE_SIZE, BUDGET_FRAMES, PAGE_ENTRY_SIZE}
-use Rattle.client_world.specs.declared.memory_map.TheConstants.{BLOCK_REGION_PAGES}
-use Rattle.client_world.specs.declared.place.Place.{Place}
-use Rattle.client_world.specs.declared.place.Place.TheVariants.{Dos, Block, Host, Nothing}
-use Rattle.client_world.specs.Access.{HasByte, IsHeldIn}
-use Rattle.client_world.specs.Soundness.{SoundBlocks, HoldBytes}
-use Rattle.client_world.specs.World.{MemoryBlock}
-use Rattle.guest_ram.specs.Bytes.{put, dword_bytes}
-use Rattle.guest_ram.specs.Listed.{copies}
-use Rattle.page_tables.specs.Budget.{HasBudget, IsBudgetFrame, IsFree, IsTaken, IsNamedNowhere, AllTaken}
-use Rattle.page_tables.specs.Entry.{page_entry}
-use Rattle.page_tables.specs.FreeList.{HasFreeList, first_free, with_head, without_head}
-use Rattle.page_tables.specs.Mapping.{HasTables, IsCovered, IsMapped, IsUnmapped}
-use Rattle.page_tables.specs.Walk.{frame_of}
+use Rattle.client_world.specs.{declared.memory_map.TheConstants.{BLOCK_REGION_PAGES}, declared.place.Place.{Place}}
+use Rattle.client_world.specs.{declared.place.Place.TheVariants.{Dos, Block, Host, Nothing}, Access.{HasByte, IsHeldIn}}
+use Rattle.client_world.specs.{Soundness.{SoundBlocks, HoldBytes}, World.{MemoryBlock}}
+use Rattle.guest_ram.specs.{Bytes.{put, dword_bytes}, Listed.{copies}}
+use Rattle.page_tables.specs.{Budget.{HasBudget, IsBudgetFrame, IsFree, IsTaken, IsNamedNowhere, AllTaken}, Entry.{page_entry}}
+use Rattle.page_tables.specs.{FreeList.{HasFreeList, first_free, with_head, without_head}, Mapping.{HasTables, IsCovered, IsMapped}}
+use Rattle.page_tables.specs.{Mapping.{IsUnmapped}, Walk.{frame_of}}
 use Rattle.page_tables.proofs.MapLaws.{with_entry}
-use Rattle.host_memory.specs.Holds.{Holds, ListsFreeFrames}
-use Rattle.host_memory.specs.Layout.{world_of, handles_part, tables_part, locks_part, budget_part, taken_part, entry_of}
-use Rattle.host_memory.proofs.BlockRows.{HasRanges, IsRange, ranges}
-use Rattle.host_memory.proofs.FreeParts.{list_of_parts}
-use Rattle.host_memory.proofs.HostTables.{has_tables}
+use Rattle.host_memory.specs.{Holds.{Holds, ListsFreeFrames}, Layout.{world_of, handles_part, tables_part, locks_part, budget_part}}
+use Rattle.host_memory.specs.Layout.{taken_part, entry_of}
+use Rattle.host_memory.proofs.{BlockRows.{HasRanges, IsRange, ranges}, FreeParts.{list_of_parts}, HostTables.{has_tables}}
 use Rattle.host_memory.proofs.Parts.{MemoryParts, parts_of, holds_parts}
-use Rattle.block_memory.specs.BlockChanges.{blocks_held, CanHoldIn, HasPagesIn, HoldsSoundBlocks, ReplacesBlock, ReplacesBlocks}
-use Rattle.block_memory.specs.BlockChanges.{with_at}
+use Rattle.block_memory.specs.BlockChanges.{blocks_held, CanHoldIn, HasPagesIn, HoldsSoundBlocks, ReplacesBlock, ReplacesBlocks, with_at}
 use Rattle.block_memory.specs.BlockSizes.{longer, shorter}
 use Rattle.block_memory.proofs.PageChanges.{ChangesBlocks, HasLast, HasLastFrame, last_frame, last_range, has_last_frame, may_shrink}
-use Rattle.block_memory.proofs.PageChanges.{not_all_taken, in_budget, room_of, grown_changes, shrunk_changes}
-use Rattle.block_memory.proofs.PageMore.{page_inside, page_outside, region_page}
-use Rattle.block_memory.proofs.PageParts.{block_parts, base_in_row, shrunk_less}
-use Rattle.block_memory.proofs.PageWrites.{cleared, cleared_are, cleared_host, grown, shrunk, unlocked, with_block_row, host_of}
-use Rattle.block_memory.proofs.PageWrites.{page_in_region, page_is, entry_are, entry_host}
-use Rattle.block_memory.proofs.RegionPages.{tables_of, budget_of, region_covered, region_mapped, region_unmapped, named_nowhere}
-use Rattle.block_memory.proofs.RegionPages.{entry_kinds, page_at, taken_byte}
+use Rattle.block_memory.proofs.{PageChanges.{not_all_taken, in_budget, room_of, grown_changes, shrunk_changes}, PageMore.{page_inside}}
+use Rattle.block_memory.proofs.{PageMore.{page_outside, region_page}, PageParts.{block_parts, base_in_row, shrunk_less}}
+use Rattle.block_memory.proofs.PageWrites.{cleared, cleared_has, grown, shrunk, unlocked, with_block_row, host_in, host_of, page_in_region}
+use Rattle.block_memory.proofs.{PageWrites.{page_is, entry_has, own_host}, RegionPages.{tables_of, budget_of, region_covered}}
+use Rattle.block_memory.proofs.RegionPages.{region_mapped, region_unmapped, named_nowhere, entry_kinds, page_at, taken_byte}
 use Rattle.block_memory.proofs.SizedSound.{longer_sound, longer_fits, shorter_sound, shorter_fits, last_of}
 
 -- a memory holds a world for one budget alone
@@ -122,7 +110,8 @@ can_map b place base n frame g is b1 c e1 e2 =
     let room = room_of s budget place base n (n + 1) (ranges_held b budget g.holds) g.can (omega arith) in
     let host = host_of b budget holds in
     let inside = in_budget b budget frame holds is in
-    let after = cleared_host b budget frame host inside in
+    let parts = cleared_has b budget _ frame (own_host b budget host) inside in
+    let after = host_in _ budget _ parts in
     let in_region = page_in_region base n room.range in
     let absent : entry_of (tables_part b) (region_page base n) ≡ 0 =
     holds.blocks.absent (region_page base n) (page_inside base n room.range) (page_outside s place base n room) in
@@ -130,7 +119,7 @@ can_map b place base n frame g is b1 c e1 e2 =
       tables = tables_of (cleared b frame) budget after;
       covered = region_covered (cleared b frame) budget (base + PAGE_SIZE * n) after in_region;
       unmapped = region_unmapped (cleared b frame) budget (base + PAGE_SIZE * n) after in_region
-          (ap (λ (p : MemoryParts). entry_of p.tables (page_at (base + PAGE_SIZE * n))) (cleared_are b budget frame host inside)
+          (ap (λ (p : MemoryParts). entry_of p.tables (page_at (base + PAGE_SIZE * n))) parts.has.are
           ∙ ap (entry_of (tables_part b)) (page_is base n room.range) ∙ absent);
     })
   where
@@ -216,19 +205,19 @@ can_give b place base n d c e frame f =
     let page = page_is base n s.range in
     let lin = base + PAGE_SIZE * n in
     let after = with_entry b lin 0 in
-    let parts = entry_are b budget lin (region_page base n) 0 host in_region page in
-    let after_host = entry_host b budget lin (region_page base n) 0 host in_region page in
+    let parts = entry_has b budget _ lin (region_page base n) 0 (own_host b budget host) in_region page in
+    let after_host = host_in _ budget _ parts in
     let from = s.last.inside.from in let to = s.last.inside.to in let most = holds.most in let size = after_host.size in
     let tables : tables_part after ≡ put (tables_part b) (PAGE_ENTRY_SIZE * region_page base n) (dword_bytes 0) =
-    ap (λ (p : MemoryParts). p.tables) parts in
-    let taken : taken_part after ≡ taken_part b = ap (λ (p : MemoryParts). p.taken) parts in
+    ap (λ (p : MemoryParts). p.tables) parts.has.are in
+    let taken : taken_part after ≡ taken_part b = ap (λ (p : MemoryParts). p.taken) parts.has.are in
     let more = shrunk_less (parts_of b budget) budget place base n (last_frame b base n - BUDGET_FRAMES) (holds_parts b budget holds)
     (may_shrink b budget place base n holds (ranges_held b budget d.holds) s.has) in
     let busy = more.busy in
     rw (e, f) (record {
       budget = budget_of after budget after_host;
       list = list_of_parts after budget (record { size = after_host.size; most = holds.most })
-          (subst (λ (p : MemoryParts). ListsFreeFrames p.vectors p.taken p.frames budget) (sym parts) holds.free);
+          (subst (λ (p : MemoryParts). ListsFreeFrames p.vectors p.taken p.frames budget) (sym parts.has.are) holds.free);
       is = record { from = s.last.inside.from; inside = omega arith };
       taken = λ none. (grind (arith, taken_byte));
       nowhere = named_nowhere after budget (last_frame b base n) after_host s.last.inside.from

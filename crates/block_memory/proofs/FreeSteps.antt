@@ -1,15 +1,12 @@
 -- The list of free frames as its first frame is taken and as a frame is given back, in the parts of the memory. A frame is counted from the
 -- first one of the budget.
 use Rattle.std.proofs.Common.{◌≡◌, ◌≢◌, ◌⊎◌, inl, inr, ℕ, ◌+◌, ◌-◌, ◌*◌, ◌<◌, ◌≤◌, List, length, slice_index, slice_set, ap, ◌∙◌, sym}
-use Rattle.std.proofs.Common.{arith, get_or-set_same, get_or-set_other}
-use Rattle.std.proofs.lemmas.Bool.{cases_eq}
+use Rattle.std.proofs.{Common.{arith, get_or-set_same, get_or-set_other}, lemmas.Bool.{cases_eq}}
 use Rattle.client_world.specs.declared.host_frames.TheConstants.{PAGE_SIZE, BUDGET_FRAMES}
 use Rattle.guest_ram.specs.Bytes.{dword, dword_bytes, put}
 use Rattle.guest_ram.proofs.PutLaws.{dword_put, dword_put_other}
 use Rattle.page_tables.proofs.FreeFrames.{more_of_free, rest_of_free}
-use Rattle.host_memory.specs.Holds.{ListsFreeFrames}
-use Rattle.host_memory.specs.Tables.{IsIdle, next_frame}
-use Rattle.host_memory.specs.Vectors.{head_end, head_start}
+use Rattle.host_memory.specs.{Holds.{ListsFreeFrames}, Tables.{IsIdle, next_frame}, Vectors.{head_end, head_start}}
 use Rattle.host_memory.proofs.VectorParts.{put_head}
 
 -- another frame is idle before and after the byte of one is written

@@ -1,33 +1,20 @@
 -- The lock count of a page of a block, read and written.
 use Rattle.std.proofs.Common.{◌≡◌, ◌≢◌, ℕ, suc, ◌+◌, ◌*◌, ◌/◌, ◌%◌, ◌<◌, ◌≤◌, ◌⊎◌, inl, inr, Bool, List, length, slice_index, slice_set}
-use Rattle.std.proofs.Common.{refl, ap, ◌∙◌, sym, subst, arith, Option, nat_lt, nat_le}
-use Rattle.std.proofs.lemmas.Bool.{cases_lt, cases_Bool, le-ltb, lt-leb}
+use Rattle.std.proofs.{Common.{refl, ap, ◌∙◌, sym, subst, arith, Option}, lemmas.Bool.{cases_lt, cases_Bool, le-ltb, lt-leb}}
 use Rattle.client_world.specs.declared.host_frames.TheConstants.{PAGE_SIZE, LOCK_COUNTS, LOCK_COUNT_SIZE}
-use Rattle.client_world.specs.declared.limits.TheConstants.{MAX_BLOCKS}
-use Rattle.client_world.specs.declared.memory_map.TheConstants.{BLOCK_REGION, BLOCK_REGION_END, BLOCK_REGION_PAGES}
-use Rattle.client_world.specs.declared.place.Place.{Place}
-use Rattle.client_world.specs.declared.place.Place.TheVariants.{Block}
-use Rattle.client_world.specs.declared.registers.Mode.{Mode}
-use Rattle.client_world.specs.declared.registers.Regs.{Regs}
-use Rattle.client_world.specs.declared.registers.Width.{Width}
-use Rattle.client_world.specs.Access.{place_in}
-use Rattle.client_world.specs.World.{MemoryBlock}
+use Rattle.client_world.specs.{declared.limits.TheConstants.{MAX_BLOCKS}, declared.memory_map.TheConstants.{BLOCK_REGION, BLOCK_REGION_END}}
+use Rattle.client_world.specs.{declared.memory_map.TheConstants.{BLOCK_REGION_PAGES}, declared.place.Place.{Place}}
+use Rattle.client_world.specs.{declared.place.Place.TheVariants.{Block}, declared.registers.Mode.{Mode}, declared.registers.Regs.{Regs}}
+use Rattle.client_world.specs.{declared.registers.Width.{Width}, Access.{place_in}, World.{MemoryBlock}}
 use Rattle.guest_ram.specs.Bytes.{put}
-use Rattle.guest_ram.proofs.PutLaws.{put_away, put_within}
-use Rattle.guest_ram.proofs.ListedLaws.{same_listed, listed-set}
-use Rattle.block_memory.specs.BlockSizes.{IsBlocks, lock_in, with_lock}
-use Rattle.host_memory.specs.Holds.{Holds, KeepsLocks}
-use Rattle.host_memory.specs.Layout.{world_of, address_of, handles_part, rows_part, base_of, pages_of, first_page_of, lock_of, held_block}
-use Rattle.host_memory.specs.Layout.{block_in, blocks_in}
-use Rattle.host_memory.specs.Vectors.{word_bytes}
-use Rattle.host_memory.proofs.BlockBytes.{apart_pages, page_small}
-use Rattle.host_memory.proofs.BlockRows.{HasRanges, over_tells, block_there, held_lock, row_there, row_free, block_at_row}
-use Rattle.block_memory.specs.BlockChanges.{blocks_held}
-use Rattle.block_memory.proofs.PageChanges.{world_after}
-use Rattle.block_memory.proofs.PageWrites.{host_of, sizes_of}
-use Rattle.host_memory.proofs.Parts.{MemoryParts, parts_of, holds_by, holds_parts, addresses_by}
-use Rattle.host_memory.proofs.PutParts.{put_locks, size_put}
-use Rattle.block_memory.proofs.RegionPages.{InRegion, page_at}
+use Rattle.guest_ram.proofs.{PutLaws.{put_away, put_within}, ListedLaws.{same_listed, listed-set}}
+use Rattle.block_memory.specs.{BlockSizes.{IsBlocks, lock_in, with_lock}, BlockChanges.{blocks_held}}
+use Rattle.host_memory.specs.{Holds.{Holds, KeepsLocks}, Layout.{world_of, address_of, handles_part, rows_part, base_of, pages_of}}
+use Rattle.host_memory.specs.{Layout.{first_page_of, lock_of, held_block, block_in, blocks_in}, Vectors.{word_bytes}}
+use Rattle.host_memory.proofs.{BlockBytes.{apart_pages, page_small}, BlockRows.{HasRanges, over_tells, block_there, held_lock, row_there}}
+use Rattle.host_memory.proofs.{BlockRows.{row_free, block_at_row}, Parts.{MemoryParts, parts_of, holds_by, holds_parts, addresses_of}}
+use Rattle.host_memory.proofs.{Parts.{own_parts}, PutParts.{Locks, put_part}}
+use Rattle.block_memory.proofs.{PageChanges.{world_after}, PageWrites.{host_of, sizes_of}, RegionPages.{InRegion, page_at}}
 
 -- reading
 
@@ -165,18 +152,18 @@ locks_page b budget lin n holds ranges is =
     let inside = byte.inside in let page = byte.page in
     let small : page_at lin < BLOCK_REGION_PAGES =
     (let s = page_small p.handles ranges byte.place (byte.at / PAGE_SIZE) byte.within (omega arith) in omega arith) in
-    let e = put_locks b budget (PAGE_SIZE * LOCK_COUNTS + LOCK_COUNT_SIZE * page_at lin) (LOCK_COUNT_SIZE * page_at lin) (word_bytes n)
-    holds.size refl (omega arith) in
+    let e = put_part Locks b budget p (PAGE_SIZE * LOCK_COUNTS + LOCK_COUNT_SIZE * page_at lin) (LOCK_COUNT_SIZE * page_at lin)
+    (word_bytes n)
+    (own_parts b budget holds) (omega arith) (omega arith) in
     let q : MemoryParts = record p { locks = put_lock p.locks (page_at lin) n } in
     let h = holds_parts b budget holds in
     let blocks = lock_blocks p.handles p.tables p.locks p.frames byte.place byte.at (page_at lin) n ranges sizes.locks byte.within byte.some
     byte.inside byte.page small
     ∙ ap (λ (x : Place). with_lock (blocks_held b budget) x n) (sym byte.answer) in
     record {
-      holds = holds_by (locked b lin n) budget q e (size_put b budget (PAGE_SIZE * LOCK_COUNTS + LOCK_COUNT_SIZE * page_at lin)
-          (word_bytes n) holds.size) holds.most (grind (arith, locked_keeps));
+      holds = holds_by (locked b lin n) budget q e holds.most (grind (arith, locked_keeps));
       world = λ mode regs vif width. world_after b (locked b lin n) budget q e refl mode regs vif width
           ∙ ap (λ (bs : List (Option MemoryBlock)). record (world_of b budget mode regs vif width) { blocks = bs }) blocks;
-      rows = ap (λ (x : MemoryParts). x.rows) e;
-      addresses = addresses_by b (locked b lin n) (ap (λ (x : MemoryParts). x.handles) e) (ap (λ (x : MemoryParts). x.tables) e);
+      rows = ap (λ (x : MemoryParts). x.rows) e.are;
+      addresses = addresses_of b (locked b lin n) budget q e refl refl;
     }

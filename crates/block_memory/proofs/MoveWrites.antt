@@ -1,35 +1,22 @@
 -- A block that moves to another linear address: the writes, the world after them, that the memory still holds one, and what stays.
 use Rattle.std.proofs.Common.{◌≡◌, ◌≢◌, ℕ, zero, suc, ◌+◌, ◌*◌, ◌<◌, ◌≤◌, inl, inr, List, length, slice_index_or, slice_set, refl, ap, ◌∙◌}
-use Rattle.std.proofs.Common.{sym, subst, arith, add_assoc, Option, None}
-use Rattle.std.proofs.lemmas.Bool.{lt-ltb, le-ltb}
-use Rattle.std.proofs.lemmas.Grind.{same_number_lists}
+use Rattle.std.proofs.{Common.{sym, subst, arith, add_assoc, Option, None}, lemmas.Bool.{lt-ltb, le-ltb}, lemmas.Grind.{same_number_lists}}
 use Rattle.client_world.specs.declared.host_frames.TheConstants.{PAGE_SIZE, BLOCK_TABLES, LOCK_COUNTS, BLOCK_TABLE_FRAMES}
 use Rattle.client_world.specs.declared.host_frames.TheConstants.{LOCK_COUNT_FRAMES, LOCK_COUNT_SIZE, PAGE_ENTRY_SIZE}
-use Rattle.client_world.specs.declared.limits.TheConstants.{MAX_BLOCKS}
-use Rattle.client_world.specs.declared.place.Place.{Place}
-use Rattle.client_world.specs.declared.place.Place.TheVariants.{Dos, Block, Host, Nothing}
-use Rattle.client_world.specs.Access.{IsHeldIn}
-use Rattle.client_world.specs.World.{MemoryBlock}
-use Rattle.guest_ram.specs.Bytes.{put, region}
-use Rattle.guest_ram.specs.Listed.{copies}
-use Rattle.guest_ram.proofs.ListedLaws.{length-copies}
-use Rattle.guest_ram.proofs.PutLaws.{length-region, at_region}
-use Rattle.block_memory.specs.BlockSizes.{CanMove, HasPages, at_base, vacant_count, vacant_start, after_slide}
-use Rattle.host_memory.specs.Holds.{Holds}
-use Rattle.host_memory.specs.Layout.{world_of, address_of, handles_part, tables_part, locks_part, base_of, pages_of, held_block}
-use Rattle.block_memory.proofs.BlockMore.{blocks_of}
-use Rattle.block_memory.proofs.BlockMoves.{MayMove, HasMoved, moved_entries, moved_locks, moved_blocks, moved_place, byte_place}
-use Rattle.host_memory.proofs.BlockRows.{HasRanges, IsRange, held_base, length-held_bytes, row_there}
-use Rattle.block_memory.specs.BlockChanges.{blocks_held}
-use Rattle.block_memory.proofs.PageChanges.{ChangesBlocks, block_reads, pages_read, base_read, world_after, held_byte}
-use Rattle.block_memory.proofs.PageCounts.{same_pages}
-use Rattle.block_memory.proofs.PageMore.{BlockParts, first_page}
+use Rattle.client_world.specs.{declared.limits.TheConstants.{MAX_BLOCKS}, declared.place.Place.{Place}}
+use Rattle.client_world.specs.{declared.place.Place.TheVariants.{Dos, Block, Host, Nothing}, Access.{IsHeldIn}, World.{MemoryBlock}}
+use Rattle.guest_ram.specs.{Bytes.{put, region}, Listed.{copies}}
+use Rattle.guest_ram.proofs.{ListedLaws.{length-copies}, PutLaws.{length-region, at_region}}
+use Rattle.block_memory.specs.{BlockSizes.{CanMove, HasPages, at_base, vacant_count, vacant_start, after_slide}, BlockChanges.{blocks_held}}
+use Rattle.host_memory.specs.{Holds.{Holds}, Layout.{world_of, address_of, handles_part, base_of, pages_of, held_block}}
+use Rattle.block_memory.proofs.{BlockMore.{blocks_of}, BlockMoves.{MayMove, HasMoved, moved_entries, moved_locks, moved_blocks}}
+use Rattle.block_memory.proofs.{BlockMoves.{moved_place}, PageChanges.{ChangesBlocks, block_reads, pages_read, base_read, world_after}}
+use Rattle.block_memory.proofs.{PageChanges.{held_byte}, PageCounts.{same_pages}, PageMore.{BlockParts, first_page}}
 use Rattle.block_memory.proofs.PageParts.{block_parts, HasSizes, with_row, row_pages, row_base, other_pages, other_base, keeps_handles}
-use Rattle.block_memory.proofs.PageWrites.{with_block_row, row_are, row_size, host_of, host_by, sizes_of}
-use Rattle.host_memory.proofs.Parts.{MemoryParts, HoldsParts, parts_of, holds_by, holds_parts, HasSize}
-use Rattle.host_memory.proofs.PutParts.{put_tables, put_locks, size_put}
-use Rattle.block_memory.proofs.RegionPages.{HasHost}
-use Rattle.block_memory.proofs.SlideLaws.{length-slid, entries_go, locks_go}
+use Rattle.block_memory.proofs.{PageWrites.{with_block_row, row_has, host_of, own_host, sizes_of}, RegionPages.{HasHost}}
+use Rattle.block_memory.proofs.SlideLaws.{entries_go, locks_go}
+use Rattle.host_memory.proofs.{BlockRows.{HasRanges, IsRange, held_base, length-held_bytes, row_there}, Parts.{HasParts, MemoryParts}}
+use Rattle.host_memory.proofs.{Parts.{HoldsParts, parts_of, holds_by, holds_parts}, PutParts.{Locks, Tables, put_part}}
 
 region_region : (b : List ℕ) (lo n at m : ℕ) → lo + n ≤ length b → at + m ≤ n → region b (lo + at) m ≡ region (region b lo n) at m
 region_region b lo n at m room within = grind (arith, add_assoc, at_region, length-region, same_number_lists)
@@ -44,43 +31,43 @@ left_inside : (from to n room : ℕ) → from + n ≤ room → vacant_start from
 left_inside from to n room fits = grind (arith, le-ltb, lt-ltb)
 
 -- a run moves within a part of the memory. The parts with other bytes there are `with_part` of these
-slid_part : (b : List ℕ) (budget lo room from to n : ℕ) (with_part : List ℕ → MemoryParts) → HasSize b budget → lo + room ≤ length b →
-    from + n ≤ room → to + n ≤ room → parts_of b budget ≡ with_part (region b lo room) →
-    ((c ys xs : List ℕ) (at : ℕ) → HasSize c budget → parts_of c budget ≡ with_part ys → at + length xs ≤ room →
-    parts_of (put c (lo + at) xs) budget ≡ with_part (put ys at xs)) →
-    parts_of (after_slide b (lo + from) (lo + to) n) budget ≡ with_part (after_slide (region b lo room) from to n)
+slid_part : (b : List ℕ) (budget lo room from to n : ℕ) (with_part : List ℕ → MemoryParts) → lo + room ≤ length b → from + n ≤ room →
+    to + n ≤ room → HasParts b budget (with_part (region b lo room)) →
+    ((c ys xs : List ℕ) (at : ℕ) → HasParts c budget (with_part ys) → at + length xs ≤ room →
+    HasParts (put c (lo + at) xs) budget (with_part (put ys at xs))) →
+    HasParts (after_slide b (lo + from) (lo + to) n) budget (with_part (after_slide (region b lo room) from to n))
 unfolding after_slide
-slid_part b budget lo room from to n with_part size within source target e puts =
+slid_part b budget lo room from to n with_part within source target has puts =
     let xs = region (region b lo room) from n in
     let long : length xs ≡ n = length-region (region b lo room) from n (omega (arith, length-region b lo room within)) in
-    let left = copies (vacant_count from to n) 0 in
     rw (shift_vacated lo from to n, shift_vacant lo from to n, region_region b lo room from n within source)
-    (puts (put b (lo + to) xs) (put (region b lo room) to xs) left (vacant_start from to n) (size_put b budget (lo + to) xs size)
-    (puts b (region b lo room) xs to size e (omega arith))
+    (puts (put b (lo + to) xs) (put (region b lo room) to xs) (copies (vacant_count from to n) 0) (vacant_start from to n)
+    (puts b (region b lo room) xs to has (omega arith))
     (omega (arith, length-copies (vacant_count from to n) 0, left_inside from to n room source)))
 
 -- entries move in the tables
-slid_tables : (b : List ℕ) (budget from to n : ℕ) → HasSize b budget → from + n ≤ PAGE_SIZE * BLOCK_TABLE_FRAMES →
+slid_tables : (b : List ℕ) (budget from to n : ℕ) (p : MemoryParts) → HasParts b budget p → from + n ≤ PAGE_SIZE * BLOCK_TABLE_FRAMES →
     to + n ≤ PAGE_SIZE * BLOCK_TABLE_FRAMES →
-    parts_of (after_slide b (PAGE_SIZE * BLOCK_TABLES + from) (PAGE_SIZE * BLOCK_TABLES + to) n) budget
-    ≡ record (parts_of b budget) { tables = after_slide (tables_part b) from to n }
-slid_tables b budget from to n size source target =
-    slid_part b budget (PAGE_SIZE * BLOCK_TABLES) (PAGE_SIZE * BLOCK_TABLE_FRAMES) from to n
-    (λ ys. record (parts_of b budget) { tables = ys })
-    size (omega arith) source target refl
-    (λ c ys xs at long e fits. put_tables c budget _ at xs long refl fits
-    ∙ ap (λ (p : MemoryParts). record p { tables = put p.tables at xs }) e)
+    HasParts (after_slide b (PAGE_SIZE * BLOCK_TABLES + from) (PAGE_SIZE * BLOCK_TABLES + to) n) budget
+    (record p { tables = after_slide p.tables from to n })
+slid_tables b budget from to n p has source target =
+    subst (λ (q : MemoryParts). HasParts (after_slide b (PAGE_SIZE * BLOCK_TABLES + from) (PAGE_SIZE * BLOCK_TABLES + to) n) budget
+    (record q { tables = after_slide q.tables from to n })) has.are
+    (slid_part b budget (PAGE_SIZE * BLOCK_TABLES) (PAGE_SIZE * BLOCK_TABLE_FRAMES) from to n
+    (λ ys. record (parts_of b budget) { tables = ys }) (omega (arith, has.size)) source target (record { size = has.size; are = refl })
+    (λ c ys xs at h fits. put_part Tables c budget _ _ at xs h (omega arith) fits))
 
 -- and words in the lock counts
-slid_locks : (b : List ℕ) (budget from to n : ℕ) → HasSize b budget → from + n ≤ PAGE_SIZE * LOCK_COUNT_FRAMES →
+slid_locks : (b : List ℕ) (budget from to n : ℕ) (p : MemoryParts) → HasParts b budget p → from + n ≤ PAGE_SIZE * LOCK_COUNT_FRAMES →
     to + n ≤ PAGE_SIZE * LOCK_COUNT_FRAMES →
-    parts_of (after_slide b (PAGE_SIZE * LOCK_COUNTS + from) (PAGE_SIZE * LOCK_COUNTS + to) n) budget
-    ≡ record (parts_of b budget) { locks = after_slide (locks_part b) from to n }
-slid_locks b budget from to n size source target =
-    slid_part b budget (PAGE_SIZE * LOCK_COUNTS) (PAGE_SIZE * LOCK_COUNT_FRAMES) from to n (λ ys. record (parts_of b budget) { locks = ys })
-    size (omega arith) source target refl
-    (λ c ys xs at long e fits. put_locks c budget _ at xs long refl fits
-    ∙ ap (λ (p : MemoryParts). record p { locks = put p.locks at xs }) e)
+    HasParts (after_slide b (PAGE_SIZE * LOCK_COUNTS + from) (PAGE_SIZE * LOCK_COUNTS + to) n) budget
+    (record p { locks = after_slide p.locks from to n })
+slid_locks b budget from to n p has source target =
+    subst (λ (q : MemoryParts). HasParts (after_slide b (PAGE_SIZE * LOCK_COUNTS + from) (PAGE_SIZE * LOCK_COUNTS + to) n) budget
+    (record q { locks = after_slide q.locks from to n })) has.are
+    (slid_part b budget (PAGE_SIZE * LOCK_COUNTS) (PAGE_SIZE * LOCK_COUNT_FRAMES) from to n
+    (λ ys. record (parts_of b budget) { locks = ys }) (omega (arith, has.size)) source target (record { size = has.size; are = refl })
+    (λ c ys xs at h fits. put_part Locks c budget _ _ at xs h (omega arith) fits))
 
 -- the parts after a move
 abbrev pub moved_parts : MemoryParts → ℕ → ℕ → ℕ → ℕ → MemoryParts
@@ -101,18 +88,11 @@ pub moved_holds : (p : MemoryParts) (budget place old base n : ℕ) → HasSizes
     HoldsParts (moved_parts p place old base n) budget
 moved_holds p budget place old base n sizes h may based =
     let m = moved_more p budget place old base n sizes may based in
-    record {
-      fixed = h.fixed;
-      rows = h.rows;
-      vectors = h.vectors;
-      records = h.records;
-      handles = keeps_handles p.handles place base n sizes.handles may.within (λ none. absurd (may.some none)) h.handles;
-      blocks = moved_entries (block_parts p) (block_parts (moved_parts p place old base n)) budget place base n m h.blocks;
-      free = h.free;
-      count = h.count ∙ sym (same_pages p.handles (with_row p.handles place base n) (λ other within. grind (arith, other_pages)));
-      locks = moved_locks (block_parts p) (block_parts (moved_parts p place old base n)) place base n m h.locks;
-      arena = h.arena;
-    }
+    let handles = keeps_handles p.handles place base n sizes.handles may.within (λ none. absurd (may.some none)) h.handles in
+    let blocks = moved_entries (block_parts p) (block_parts (moved_parts p place old base n)) budget place base n m h.blocks in
+    let count = h.count ∙ sym (same_pages p.handles (with_row p.handles place base n) (λ other within. grind (arith, other_pages))) in
+    let locks = moved_locks (block_parts p) (block_parts (moved_parts p place old base n)) place base n m h.locks in
+    assumption
 
 -- the writes
 abbrev pub moved : List ℕ → ℕ → ℕ → ℕ → ℕ → List ℕ
@@ -123,13 +103,17 @@ moved b place old base n = with_block_row
     (LOCK_COUNT_SIZE * n))
     place base n
 
-pub moved_size : (b : List ℕ) (budget place old base n : ℕ) → HasSize b budget → HasSize (moved b place old base n) budget
-moved_size b budget place old base n size = grind (arith, length-slid, row_size)
-
-pub moved_are : (b : List ℕ) (budget place old base n : ℕ) → HasHost b budget → place < MAX_BLOCKS → IsRange old n → IsRange base n →
-    parts_of (moved b place old base n) budget ≡ moved_parts (parts_of b budget) place old base n
-moved_are b budget place old base n host within own range =
-    grind (arith, host_by, length-slid, row_are, slid_locks, slid_tables)
+pub moved_has : (b : List ℕ) (budget place old base n : ℕ) → HasHost b budget → place < MAX_BLOCKS → IsRange old n → IsRange base n →
+    HasParts (moved b place old base n) budget (moved_parts (parts_of b budget) place old base n)
+moved_has b budget place old base n host within own range =
+    let own_from = own.from in let own_to = own.to in let from = range.from in let to = range.to in
+    let start = own_host b budget host in
+    (row_has _ budget _ place base n (record {
+      has = slid_locks _ budget _ _ (LOCK_COUNT_SIZE * n) _ (slid_tables b budget _ _ (PAGE_ENTRY_SIZE * n) _ start.has (omega arith)
+          (omega arith)) (omega arith) (omega arith);
+      most = host.most;
+      fixed = host.fixed;
+    }) within).has
 
 -- what the world says of the blocks, the rows say
 pub may_move : (s : BlockParts) (place base n : ℕ) → HasRanges s.handles → CanMove (blocks_of s) place base n → MayMove s place base n
@@ -179,19 +163,19 @@ moved_changes b budget place old base n holds ranges has can =
     let based : base_of (handles_part b) place ≡ old =
     base_read s place old can.within (λ none. can.some (sym may.pages ∙ none)) (has.based can.some) in
     let q = moved_parts p place old base n in
-    let e = moved_are b budget place old base n host can.within (subst (λ (x : ℕ). IsRange x n) based may.own) may.range in
+    let e = moved_has b budget place old base n host can.within (subst (λ (x : ℕ). IsRange x n) based may.own) may.range in
     let m = moved_more p budget place old base n sizes may based in
     let blocks : blocks_of (block_parts q)
     ≡ slice_set (blocks_held b budget) place (at_base base (slice_index_or (blocks_held b budget) place None)) =
     moved_blocks s (block_parts q) place base n m
     ∙ ap (λ (o : Option MemoryBlock). slice_set (blocks_held b budget) place (at_base base o)) (sym (block_reads s place can.within)) in
     record {
-      holds = holds_by (moved b place old base n) budget q e (moved_size b budget place old base n holds.size) holds.most
+      holds = holds_by (moved b place old base n) budget q e holds.most
           (moved_holds p budget place old base n sizes h may based);
-      are = ap (λ (x : MemoryParts). blocks_of (block_parts x)) e ∙ blocks;
+      are = ap (λ (x : MemoryParts). blocks_of (block_parts x)) e.are ∙ blocks;
       world = λ mode regs vif width. world_after b (moved b place old base n) budget q e refl mode regs vif width
           ∙ ap (λ (bs : List (Option MemoryBlock)). record (world_of b budget mode regs vif width) { blocks = bs }) blocks;
-      rows = ap (λ (x : MemoryParts). x.rows) e;
+      rows = ap (λ (x : MemoryParts). x.rows) e.are;
       addresses = λ it before after.
-          moved_addresses b (moved b place old base n) s (block_parts q) budget place base n m refl (ap block_parts e) it before;
+          moved_addresses b (moved b place old base n) s (block_parts q) budget place base n m refl (ap block_parts e.are) it before;
     }

@@ -2,41 +2,26 @@
 use Rattle.std.proofs.Common.{◌≡◌, ◌≢◌, ℕ, zero, suc, ◌+◌, ◌-◌, ◌*◌, ◌/◌, ◌%◌, ◌<◌, ◌≤◌, inl, inr, true, Bool, List, slice_index}
 use Rattle.std.proofs.Common.{slice_index_or, slice_set, refl, ap, ◌∙◌, sym, subst, arith, Option, None, Some}
 use Rattle.client_world.specs.declared.host_frames.TheConstants.{PAGE_SIZE, PAGE_DIRECTORY, BUDGET_FRAMES, TAKEN_FRAMES}
-use Rattle.client_world.specs.declared.limits.TheConstants.{MAX_BLOCKS}
-use Rattle.client_world.specs.declared.place.Place.{Place}
-use Rattle.client_world.specs.declared.place.Place.TheVariants.{Dos, Block, Host, Nothing}
-use Rattle.client_world.specs.declared.registers.Mode.{Mode}
-use Rattle.client_world.specs.declared.registers.Regs.{Regs}
-use Rattle.client_world.specs.declared.registers.Width.{Width}
-use Rattle.client_world.specs.Access.{HasByte, IsHeld, IsHeldIn}
-use Rattle.client_world.specs.Soundness.{pages_of_block}
-use Rattle.client_world.specs.World.{World, MemoryBlock, block_at, base_of_block}
+use Rattle.client_world.specs.{declared.limits.TheConstants.{MAX_BLOCKS}, declared.place.Place.{Place}}
+use Rattle.client_world.specs.{declared.place.Place.TheVariants.{Dos, Block, Host, Nothing}, declared.registers.Mode.{Mode}}
+use Rattle.client_world.specs.{declared.registers.Regs.{Regs}, declared.registers.Width.{Width}, Access.{HasByte, IsHeld, IsHeldIn}}
+use Rattle.client_world.specs.{Soundness.{pages_of_block}, World.{World, MemoryBlock, block_at, base_of_block}}
 use Rattle.guest_ram.specs.Bytes.{dword}
 use Rattle.guest_ram.proofs.ListedLaws.{at_listed}
-use Rattle.page_tables.specs.Budget.{IsBudgetFrame, IsFree, AllTaken, taken_place}
-use Rattle.page_tables.specs.Entry.{page_entry}
-use Rattle.page_tables.specs.FreeList.{first_free}
+use Rattle.page_tables.specs.{Budget.{IsBudgetFrame, IsFree, AllTaken, taken_place}, Entry.{page_entry}, FreeList.{first_free}}
 use Rattle.page_tables.specs.Walk.{table_entry, frame_of}
-use Rattle.block_memory.specs.BlockChanges.{blocks_held}
-use Rattle.block_memory.specs.BlockSizes.{CanHold, longer, shorter}
-use Rattle.host_memory.specs.Holds.{Holds}
-use Rattle.host_memory.specs.Layout.{world_of, address_of, rows_part, vectors_part, handles_part, tables_part, taken_part, base_of}
-use Rattle.host_memory.specs.Layout.{pages_of, first_page_of, entry_of, held_block}
-use Rattle.host_memory.specs.Tables.{NamesBudgetFrame}
-use Rattle.block_memory.proofs.BlockMore.{block_of, blocks_of, more_blocks, less_blocks}
-use Rattle.host_memory.proofs.BlockRows.{HasRanges, IsRange, held_base, length-held_bytes, row_there, row_at_block}
-use Rattle.block_memory.proofs.PageCounts.{used_front, pages_of_row, all_pages_are}
-use Rattle.block_memory.proofs.PageMore.{BlockParts, HasRoom, HasPageMore, region_page, page_inside, is_away, first_new, first_old}
-use Rattle.block_memory.proofs.PageMore.{first_other}
-use Rattle.block_memory.proofs.PageParts.{block_parts, MayGrow, MayShrink, grown_parts, grown_more, grown_beside, grown_zero}
-use Rattle.block_memory.proofs.PageParts.{grown_unlocked, grown_holds, shrunk_parts, shrunk_less, shrunk_beside, shrunk_holds}
-use Rattle.block_memory.proofs.PageWrites.{InBudget, grown, grown_are, grown_size, shrunk, shrunk_are, shrunk_size, sizes_of, host_of}
-use Rattle.block_memory.proofs.PageWrites.{page_in_region, page_is}
-use Rattle.host_memory.proofs.FreeParts.{head_is}
-use Rattle.host_memory.proofs.Parts.{MemoryParts, parts_of, world_by, holds_by, holds_parts}
-use Rattle.host_memory.proofs.VectorParts.{put_head}
+use Rattle.block_memory.specs.{BlockChanges.{blocks_held}, BlockSizes.{CanHold, longer, shorter}}
+use Rattle.host_memory.specs.{Holds.{Holds}, Layout.{world_of, address_of, rows_part, vectors_part, handles_part, tables_part, taken_part}}
+use Rattle.host_memory.specs.{Layout.{base_of, pages_of, first_page_of, entry_of, held_block}, Tables.{NamesBudgetFrame}}
+use Rattle.block_memory.proofs.{BlockMore.{block_of, blocks_of, more_blocks, less_blocks}, PageCounts.{used_front, pages_of_row}}
+use Rattle.block_memory.proofs.{PageCounts.{all_pages_are}, PageMore.{BlockParts, HasRoom, HasPageMore, region_page, page_inside, is_away}}
+use Rattle.block_memory.proofs.{PageMore.{first_new, first_old, first_other}, PageParts.{block_parts, MayGrow, MayShrink, grown_parts}}
+use Rattle.block_memory.proofs.PageParts.{grown_more, grown_beside, grown_zero, grown_unlocked, grown_holds, shrunk_parts, shrunk_less}
+use Rattle.block_memory.proofs.{PageParts.{shrunk_beside, shrunk_holds}, PageWrites.{InBudget, grown, grown_has, shrunk, shrunk_has}}
+use Rattle.block_memory.proofs.{PageWrites.{sizes_of, host_of, page_in_region, page_is}, RegionPages.{region_entry, taken_byte}}
+use Rattle.host_memory.proofs.{BlockRows.{HasRanges, IsRange, held_base, length-held_bytes, row_there, row_at_block}, FreeParts.{head_is}}
+use Rattle.host_memory.proofs.{Parts.{HasParts, MemoryParts, parts_of, world_by, holds_by, holds_parts}, VectorParts.{put_head}}
 use Rattle.host_memory.proofs.VectorWrites.{head_lists, same_lists}
-use Rattle.block_memory.proofs.RegionPages.{region_entry, taken_byte}
 
 pub held_in : (w : World) (blocks : List (Option MemoryBlock)) (p : Place) → w.blocks ≡ blocks → IsHeld w p → IsHeldIn blocks p
 held_in w blocks p e held = subst (λ (bs : List (Option MemoryBlock)). IsHeldIn bs p) e held
@@ -89,7 +74,7 @@ kept_addresses few many old new budget place base n frame m e f Host held = absu
 kept_addresses few many old new budget place base n frame m e f Nothing held = absurd held
 
 -- the world after a change of the parts of blocks alone
-pub world_after : (b c : List ℕ) (budget : ℕ) (q : MemoryParts) → parts_of c budget ≡ q →
+pub world_after : (b c : List ℕ) (budget : ℕ) (q : MemoryParts) → HasParts c budget q →
     q ≡ record (parts_of b budget) { handles = q.handles; tables = q.tables; taken = q.taken; locks = q.locks; frames = q.frames } →
     (mode : Mode) (regs : Regs) (vif : Bool) (width : Option Width) →
     world_of c budget mode regs vif width ≡ record (world_of b budget mode regs vif width) { blocks = blocks_of (block_parts q) }
@@ -97,7 +82,7 @@ unfolding world_of
 world_after b c budget q e same mode regs vif width = grind (arith, world_by)
 
 -- and where the head of the list of free frames changes too
-pub world_after_head : (b c : List ℕ) (budget head : ℕ) (q : MemoryParts) → parts_of c budget ≡ q →
+pub world_after_head : (b c : List ℕ) (budget head : ℕ) (q : MemoryParts) → HasParts c budget q →
     q ≡ record (parts_of b budget) {
       vectors = put_head (vectors_part b) head;
       handles = q.handles;
@@ -189,7 +174,7 @@ grown_changes b budget place base n to frame holds ranges can further inside fre
     let q = grown_parts p place base n f in
     let h = holds_parts b budget holds in
     let may = may_grow b budget place base n to frame holds ranges can further inside free head in
-    let e = grown_are b budget place base n frame (host_of b budget holds) inside can.within may.room.range in
+    let e = grown_has b budget place base n frame (host_of b budget holds) inside can.within may.room.range in
     let more = grown_more p budget place base n f h may in
     let blocks : blocks_of (block_parts q)
     ≡ slice_set (blocks_held b budget) place (Some (longer base (slice_index_or (blocks_held b budget) place None) 1)) =
@@ -198,16 +183,16 @@ grown_changes b budget place base n to frame holds ranges can further inside fre
     ∙ ap (λ (o : Option MemoryBlock). slice_set (blocks_held b budget) place (Some (longer base o 1)))
     (sym (block_reads (block_parts p) place can.within)) in
     record {
-      holds = holds_by (grown b place base n frame) budget q e (grown_size b budget place base n frame holds.size) holds.most
+      holds = holds_by (grown b place base n frame) budget q e holds.most
           (grown_holds p budget place base n f h may);
-      are = ap (λ (x : MemoryParts). blocks_of (block_parts x)) e ∙ blocks;
+      are = ap (λ (x : MemoryParts). blocks_of (block_parts x)) e.are ∙ blocks;
       world = λ mode regs vif width.
           world_after_head b (grown b place base n frame) budget (dword p.frames (PAGE_SIZE * f)) q e refl mode regs vif width
           ∙ ap (λ (bs : List (Option MemoryBlock)). record (world_of b budget mode regs vif width) { blocks = bs }) blocks;
-      rows = ap (λ (x : MemoryParts). x.rows) e;
+      rows = ap (λ (x : MemoryParts). x.rows) e.are;
       addresses = λ place_of_it before after.
           kept_addresses b (grown b place base n frame) (block_parts p) (block_parts q) budget place base n f more
-          refl (ap block_parts e) place_of_it before;
+          refl (ap block_parts e.are) place_of_it before;
     }
 
 -- the last page of a block lies in a frame of the budget
@@ -282,7 +267,7 @@ shrunk_changes b budget place base n holds ranges has =
     let h = holds_parts b budget holds in
     let may = may_shrink b budget place base n holds ranges has in
     let last = has_last_frame b budget place base n holds ranges has in
-    let e = shrunk_are b budget place base n frame (host_of b budget holds) last.inside has.within
+    let e = shrunk_has b budget place base n frame (host_of b budget holds) last.inside has.within
     (last_range b budget place base n ranges has) in
     let more = shrunk_less p budget place base n f h may in
     let after = shrunk_holds p budget place base n f h may in
@@ -292,13 +277,13 @@ shrunk_changes b budget place base n holds ranges has =
     ∙ ap (λ (o : Option MemoryBlock). slice_set (blocks_held b budget) place (shorter o n))
     (sym (block_reads (block_parts p) place has.within)) in
     record {
-      holds = holds_by (shrunk b place base n frame) budget q e (shrunk_size b budget place base n frame holds.size) holds.most after;
-      are = ap (λ (x : MemoryParts). blocks_of (block_parts x)) e ∙ blocks;
+      holds = holds_by (shrunk b place base n frame) budget q e holds.most after;
+      are = ap (λ (x : MemoryParts). blocks_of (block_parts x)) e.are ∙ blocks;
       world = λ mode regs vif width.
           world_after_head b (shrunk b place base n frame) budget (BUDGET_FRAMES + f) q e refl mode regs vif width
           ∙ ap (λ (bs : List (Option MemoryBlock)). record (world_of b budget mode regs vif width) { blocks = bs }) blocks;
-      rows = ap (λ (x : MemoryParts). x.rows) e;
+      rows = ap (λ (x : MemoryParts). x.rows) e.are;
       addresses = λ place_of_it before held.
           sym (kept_addresses (shrunk b place base n frame) b (block_parts q) (block_parts p) budget place base n f more
-          (ap block_parts e) refl place_of_it (subst (λ (bs : List (Option MemoryBlock)). IsHeldIn bs place_of_it) (sym blocks) held));
+          (ap block_parts e.are) refl place_of_it (subst (λ (bs : List (Option MemoryBlock)). IsHeldIn bs place_of_it) (sym blocks) held));
     }

@@ -1,16 +1,10 @@
 -- How many frames are taken, and how many pages the blocks have together.
 use Rattle.std.proofs.Common.{◌≡◌, ◌≢◌, ℕ, zero, suc, ◌+◌, ◌<◌, ◌≤◌, inl, inr, List, [], ◌∷◌, length, get_or, refl, ◌∙◌, arith, Option}
-use Rattle.std.specs.Prelude.{map}
-use Rattle.std.specs.List.{range_with_len}
-use Rattle.std.proofs.lemmas.Bool.{cases_eq, ne_eqb}
-use Rattle.std.proofs.lemmas.Grind.{same_number_lists}
-use Rattle.client_world.specs.declared.limits.TheConstants.{MAX_BLOCKS}
-use Rattle.client_world.specs.Soundness.{pages_of_block, pages_of_blocks}
-use Rattle.client_world.specs.World.{MemoryBlock}
-use Rattle.guest_ram.specs.Count.{used, total}
-use Rattle.guest_ram.specs.Listed.{listed}
-use Rattle.host_memory.specs.Holds.{all_pages}
-use Rattle.host_memory.specs.Layout.{pages_of, block_in, blocks_in}
+use Rattle.std.proofs.{lemmas.Bool.{cases_eq, ne_eqb}, lemmas.Grind.{same_number_lists}}
+use Rattle.std.specs.{Prelude.{map}, List.{range_with_len}}
+use Rattle.client_world.specs.{declared.limits.TheConstants.{MAX_BLOCKS}, Soundness.{pages_of_block, pages_of_blocks}, World.{MemoryBlock}}
+use Rattle.guest_ram.specs.{Count.{used, total}, Listed.{listed}}
+use Rattle.host_memory.specs.{Holds.{all_pages}, Layout.{pages_of, block_in, blocks_in}}
 use Rattle.host_memory.proofs.BlockRows.{row_there, row_free, length-held_locks}
 
 -- where the first n bytes aren't 0, n are used

@@ -2,13 +2,11 @@
 -- in the first one. Each of the two keeps its page entries where the other one does: so a block grows and shrinks by the same record.
 use Rattle.std.proofs.Common.{◌≡◌, ◌≢◌, ℕ, ◌+◌, ◌-◌, ◌*◌, ◌/◌, ◌<◌, ◌≤◌, ◌⊎◌, inl, inr, true, List, slice_index, ap, ◌∙◌, sym, subst, arith}
 use Rattle.std.proofs.lemmas.Bool.{cases_eq}
-use Rattle.client_world.specs.declared.host_frames.TheConstants.{PAGE_SIZE, BUDGET_FRAMES}
-use Rattle.client_world.specs.declared.limits.TheConstants.{MAX_BLOCKS}
+use Rattle.client_world.specs.{declared.host_frames.TheConstants.{PAGE_SIZE, BUDGET_FRAMES}, declared.limits.TheConstants.{MAX_BLOCKS}}
 use Rattle.client_world.specs.declared.memory_map.TheConstants.{BLOCK_REGION, BLOCK_REGION_PAGES}
 use Rattle.page_tables.specs.Entry.{page_entry}
-use Rattle.host_memory.specs.Layout.{base_of, pages_of, first_page_of, entry_of, lock_of}
-use Rattle.host_memory.specs.Holds.{KeepsLocks}
-use Rattle.host_memory.specs.Tables.{HasBlockEntries, NamesFrame, IsOutside}
+use Rattle.host_memory.specs.{Layout.{base_of, pages_of, first_page_of, entry_of, lock_of}, Holds.{KeepsLocks}, Tables.{HasBlockEntries}}
+use Rattle.host_memory.specs.Tables.{NamesFrame, IsOutside}
 use Rattle.host_memory.proofs.BlockRows.{IsRange}
 
 -- the rows of the blocks, the entries of their pages, the taken bytes, the lock counts, and the budget frames

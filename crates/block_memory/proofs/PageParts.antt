@@ -1,27 +1,19 @@
 -- A page given to a block and taken from it, as writes into the parts of the memory: the parts still keep what they must.
 use Rattle.std.proofs.Common.{◌≡◌, ◌≢◌, ℕ, zero, suc, ◌+◌, ◌-◌, ◌*◌, ◌<◌, ◌≤◌, ◌⊎◌, inl, inr, List, [], ◌∷◌, length, slice_index, slice_set}
-use Rattle.std.proofs.Common.{refl, ap, ◌∙◌, sym, arith, get_or-set_same, get_or-set_other, length-set}
+use Rattle.std.proofs.{Common.{refl, ap, ◌∙◌, sym, arith, get_or-set_same, get_or-set_other, length-set}, lemmas.Bool.{cases_eq, cases_lt}}
+use Rattle.std.proofs.lemmas.Bool.{eq-eqb, ne_eqb}
 use Rattle.std.specs.Prelude.{nat_eq, if◌then◌else◌}
-use Rattle.std.proofs.lemmas.Bool.{cases_eq, cases_lt, eq-eqb, ne_eqb}
 use Rattle.client_world.specs.declared.host_frames.TheConstants.{PAGE_SIZE, BLOCK_ROW_FRAMES, BLOCK_ROW_SIZE, LOCK_COUNT_SIZE}
 use Rattle.client_world.specs.declared.host_frames.TheConstants.{PAGE_ENTRY_SIZE, VECTOR_FRAMES, BUDGET_FRAMES}
-use Rattle.client_world.specs.declared.limits.TheConstants.{MAX_BLOCKS, MAX_PAGES}
-use Rattle.client_world.specs.declared.memory_map.TheConstants.{BLOCK_REGION_PAGES}
-use Rattle.guest_ram.specs.Bytes.{put, dword, dword_bytes}
-use Rattle.guest_ram.specs.Listed.{copies}
-use Rattle.guest_ram.specs.Count.{used}
-use Rattle.guest_ram.proofs.ListedLaws.{length-copies, at_copies}
-use Rattle.guest_ram.proofs.PutLaws.{length-put, put_away, put_within, dword_put, dword_put_other}
+use Rattle.client_world.specs.{declared.limits.TheConstants.{MAX_BLOCKS, MAX_PAGES}, declared.memory_map.TheConstants.{BLOCK_REGION_PAGES}}
+use Rattle.guest_ram.specs.{Bytes.{put, dword, dword_bytes}, Listed.{copies}, Count.{used}}
+use Rattle.guest_ram.proofs.{ListedLaws.{length-copies, at_copies}, PutLaws.{length-put, put_away, put_within, dword_put, dword_put_other}}
 use Rattle.page_tables.proofs.FreeWrites.{dword_put_beside}
-use Rattle.host_memory.specs.Holds.{KeepsHandles, ListsFreeFrames, all_pages}
-use Rattle.host_memory.specs.Layout.{base_of, pages_of, entry_of, lock_of}
+use Rattle.host_memory.specs.{Holds.{KeepsHandles, ListsFreeFrames, all_pages}, Layout.{base_of, pages_of, entry_of, lock_of}}
 use Rattle.host_memory.specs.Vectors.{head_start}
-use Rattle.host_memory.proofs.BlockRows.{IsRange, HasRanges}
-use Rattle.block_memory.proofs.PageCounts.{used_more, one_page_more}
-use Rattle.block_memory.proofs.PageMore.{BlockParts, HasRoom, HasPageMore, AgreesBeside, region_page, budget_entry, page_inside}
-use Rattle.block_memory.proofs.PageMore.{page_outside, grows, shrinks, entries_kept, locks_kept}
-use Rattle.host_memory.proofs.Parts.{MemoryParts, HoldsParts}
-use Rattle.host_memory.proofs.VectorParts.{keeps_head, put_head}
+use Rattle.host_memory.proofs.{BlockRows.{IsRange, HasRanges}, Parts.{MemoryParts, HoldsParts}, VectorParts.{keeps_head, put_head}}
+use Rattle.block_memory.proofs.{PageCounts.{used_more, one_page_more}, PageMore.{BlockParts, HasRoom, HasPageMore, AgreesBeside}}
+use Rattle.block_memory.proofs.PageMore.{region_page, budget_entry, page_inside, page_outside, grows, shrinks, entries_kept, locks_kept}
 use Rattle.block_memory.proofs.FreeSteps.{list_given, list_taken}
 
 -- the parts that blocks lie in
@@ -226,19 +218,14 @@ grown_holds p budget place base n frame h may =
     let more = grown_more p budget place base n frame h may in let grown = grows old new budget place base n frame more in
     let beside = grown_beside p budget place base n frame in
     let few = may.few in let most = may.sizes.most in let pages = may.room.pages in
-    record {
-      fixed = h.fixed;
-      rows = h.rows;
-      vectors = keeps_head p.vectors (dword p.frames (PAGE_SIZE * frame)) h.vectors;
-      records = h.records;
-      handles = keeps_handles p.handles place base (n + 1) may.sizes.handles may.room.within (λ none. absurd (omega arith)) h.handles;
-      blocks = entries_kept old new budget (region_page base n) frame grown h.blocks;
-      free = grown_list p budget place base n frame h may;
-      count = grind (arith, length-set, one_page_more, other_pages, used_more);
-      locks = locks_kept old new budget (region_page base n) frame grown beside.locks
-          (grown_unlocked p budget place base n frame h may) h.locks;
-      arena = h.arena;
-    }
+    let vectors = keeps_head p.vectors (dword p.frames (PAGE_SIZE * frame)) h.vectors in
+    let handles = keeps_handles p.handles place base (n + 1) may.sizes.handles may.room.within (λ none. absurd (omega arith)) h.handles in
+    let blocks = entries_kept old new budget (region_page base n) frame grown h.blocks in
+    let free = grown_list p budget place base n frame h may in
+    let count : used new.taken ≡ all_pages new.handles = grind (arith, length-set, one_page_more, other_pages, used_more) in
+    let unlocked = grown_unlocked p budget place base n frame h may in
+    let locks = locks_kept old new budget (region_page base n) frame grown beside.locks unlocked h.locks in
+    assumption
 
 -- a page less
 
@@ -322,16 +309,9 @@ shrunk_holds p budget place base n frame h may =
     let together : all_pages p.handles ≡ all_pages (with_row p.handles place (base_in_row base n) n) + 1 =
     one_page_more (with_row p.handles place (base_in_row base n) n) p.handles place may.within
     (more.new_pages ∙ ap (λ (k : ℕ). k + 1) (sym pages)) more.other_pages in
-    record {
-      fixed = h.fixed;
-      rows = h.rows;
-      vectors = keeps_head p.vectors (BUDGET_FRAMES + frame) h.vectors;
-      records = h.records;
-      handles = keeps_handles p.handles place (base_in_row base n) n may.sizes.handles may.within (base_gone base n) h.handles;
-      blocks = entries_kept new old budget (region_page base n) frame shrunk h.blocks;
-      free = (grind (arith, list_given));
-      count = omega (arith, count, together, h.count);
-      locks = locks_kept new old budget (region_page base n) frame shrunk (λ other small ne. sym (beside.locks other small ne))
-          (lock_here p.locks (region_page base n) may.sizes.locks (page_inside base n (own_range p budget place base n frame may))) h.locks;
-      arena = h.arena;
-    }
+    let vectors = keeps_head p.vectors (BUDGET_FRAMES + frame) h.vectors in
+    let handles = keeps_handles p.handles place (base_in_row base n) n may.sizes.handles may.within (base_gone base n) h.handles in
+    let blocks = entries_kept new old budget (region_page base n) frame shrunk h.blocks in
+    let locks = locks_kept new old budget (region_page base n) frame shrunk (λ other small ne. sym (beside.locks other small ne))
+    (lock_here p.locks (region_page base n) may.sizes.locks (page_inside base n (own_range p budget place base n frame may))) h.locks in
+    grind (arith, list_given)

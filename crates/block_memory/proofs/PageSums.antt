@@ -1,18 +1,12 @@
 -- The pages of all blocks, and those of them that are locked, counted row by row.
 use Rattle.std.proofs.Common.{◌≡◌, ℕ, zero, suc, ◌+◌, ◌-◌, ◌<◌, ◌≤◌, List, [], ◌∷◌, ◌++◌, length, refl, ap, ◌∙◌, arith, add-one, Option}
-use Rattle.std.specs.Prelude.{map, nat_eq, if◌then◌else◌}
-use Rattle.std.specs.List.{range_with_len}
 use Rattle.std.proofs.lemmas.Bool.{eq-eqb, ne_eqb}
-use Rattle.std.proofs.lemmas.Grind.{same_number_lists}
-use Rattle.std.proofs.lemmas.List.{length-append, get_or_append_left, get_or-append_right}
-use Rattle.client_world.specs.declared.limits.TheConstants.{MAX_BLOCKS}
-use Rattle.client_world.specs.World.{MemoryBlock}
-use Rattle.guest_ram.specs.Count.{used, total}
-use Rattle.guest_ram.specs.Listed.{listed}
-use Rattle.guest_ram.proofs.ListedLaws.{length-listed, at_listed}
+use Rattle.std.specs.{Prelude.{map, nat_eq, if◌then◌else◌}, List.{range_with_len}}
+use Rattle.client_world.specs.{declared.limits.TheConstants.{MAX_BLOCKS}, World.{MemoryBlock}}
+use Rattle.guest_ram.specs.{Count.{used, total}, Listed.{listed}}
+use Rattle.guest_ram.proofs.ListedLaws.{listed_next, length-listed}
 use Rattle.block_memory.specs.BlockSizes.{locks_of_block, locked_pages, locked_run, locked_of, all_locked}
-use Rattle.host_memory.specs.Holds.{all_pages}
-use Rattle.host_memory.specs.Layout.{pages_of, first_page_of, lock_of, block_in, blocks_in}
+use Rattle.host_memory.specs.{Holds.{all_pages}, Layout.{pages_of, first_page_of, lock_of, block_in, blocks_in}}
 use Rattle.block_memory.proofs.BlockMore.{locks_are}
 
 -- sums over the first places
@@ -56,9 +50,6 @@ all_pages_is handles = refl
 used_behind : (xs : List ℕ) (x : ℕ) → used (xs ++ x ∷ []) ≡ used xs + (if nat_eq x 0 then 0 else 1)
 used_behind [] x = omega arith
 used_behind (y ∷ xs) x = let rest = used_behind xs x in omega arith
-
-listed_next : (n : ℕ) (f : ℕ → ℕ) → listed (n + 1) f ≡ listed n f ++ f n ∷ []
-listed_next n f = grind (arith, at_listed, get_or-append_right, get_or_append_left, length-append, length-listed, same_number_lists)
 
 pub run_next : (locks : List ℕ) (first n : ℕ) →
     locked_run locks first (n + 1) ≡ locked_run locks first n + (if nat_eq (lock_of locks (first + n)) 0 then 0 else 1)

@@ -1,27 +1,21 @@
 -- What mapping asks of the pages of the block region, and where their entries are.
 use Rattle.std.proofs.Common.{◌≡◌, ◌≢◌, ℕ, ◌+◌, ◌-◌, ◌*◌, ◌/◌, ◌%◌, ◌<◌, ◌≤◌, ◌^◌, ◌⊎◌, inl, inr, true, List, slice_index, ap, ◌∙◌, sym}
-use Rattle.std.proofs.Common.{subst, arith}
-use Rattle.std.proofs.lemmas.Bool.{cases_lt, lt-ltb, le-ltb, false≢true}
-use Rattle.client_world.specs.Registers.{has_bit}
-use Rattle.client_world.specs.declared.host_frames.TheConstants.{PAGE_SIZE, PAGE_DIRECTORY, BLOCK_TABLES, BUDGET_FRAMES, TAKEN_FRAMES}
-use Rattle.client_world.specs.declared.host_frames.TheConstants.{BLOCK_TABLE_FRAMES, PAGE_ENTRY_SIZE, TABLE_ENTRIES, TAKEN_BYTE_FRAMES}
-use Rattle.client_world.specs.declared.limits.TheConstants.{MAX_PAGES}
-use Rattle.client_world.specs.declared.memory_map.TheConstants.{BLOCK_REGION, BLOCK_REGION_END, BLOCK_REGION_PAGES, HOST_WINDOW}
+use Rattle.std.proofs.{Common.{subst, arith}, lemmas.Bool.{cases_lt, lt-ltb, le-ltb, false≢true}}
+use Rattle.client_world.specs.{Registers.{has_bit}, declared.host_frames.TheConstants.{PAGE_SIZE, PAGE_DIRECTORY, BLOCK_TABLES}}
+use Rattle.client_world.specs.declared.host_frames.TheConstants.{BUDGET_FRAMES, TAKEN_FRAMES, BLOCK_TABLE_FRAMES, PAGE_ENTRY_SIZE}
+use Rattle.client_world.specs.declared.host_frames.TheConstants.{TABLE_ENTRIES, TAKEN_BYTE_FRAMES}
+use Rattle.client_world.specs.{declared.limits.TheConstants.{MAX_PAGES}, declared.memory_map.TheConstants.{BLOCK_REGION, BLOCK_REGION_END}}
+use Rattle.client_world.specs.declared.memory_map.TheConstants.{BLOCK_REGION_PAGES, HOST_WINDOW}
 use Rattle.guest_ram.specs.Bytes.{dword}
 use Rattle.guest_ram.proofs.PutLaws.{at_region, dword-region}
-use Rattle.page_tables.specs.Entry.{page_entry}
-use Rattle.page_tables.specs.Budget.{HasBudget, IsNamedNowhere}
-use Rattle.page_tables.specs.Mapping.{HasTables, IsCovered, IsMapped, IsUnmapped}
+use Rattle.page_tables.specs.{Entry.{page_entry}, Budget.{HasBudget, IsNamedNowhere}, Mapping.{HasTables, IsCovered, IsMapped, IsUnmapped}}
 use Rattle.page_tables.specs.Walk.{directory_entry, table_place, table_entry, entry_place, frame_of}
 use Rattle.page_tables.specs.declared.entry.TheConstants.{PRESENT, TABLE_SPAN}
-use Rattle.page_tables.proofs.EntryLaws.{page_entry_present}
-use Rattle.page_tables.proofs.HostDirectory.{HasTables-host_directory}
-use Rattle.host_memory.specs.Layout.{fixed_part, tables_part, taken_part, first_page_of, entry_of}
-use Rattle.host_memory.specs.Tables.{HasFixedEntries, HasBlockEntries, NamesBudgetFrame, low_entry_at, window_entry_at}
-use Rattle.host_memory.proofs.BlockRows.{HasRanges, over_tells}
-use Rattle.host_memory.proofs.FixedWalks.{directory_is, directory_of_block, directory_of_none, block_table}
-use Rattle.host_memory.proofs.HostTables.{host_directory}
-use Rattle.host_memory.proofs.Parts.{HasSize}
+use Rattle.page_tables.proofs.{EntryLaws.{page_entry_present}, HostDirectory.{HasTables-host_directory}}
+use Rattle.host_memory.specs.{Layout.{fixed_part, tables_part, taken_part, first_page_of, entry_of}, Tables.{HasFixedEntries}}
+use Rattle.host_memory.specs.Tables.{HasBlockEntries, NamesBudgetFrame, low_entry_at, window_entry_at}
+use Rattle.host_memory.proofs.{BlockRows.{HasRanges, over_tells}, FixedWalks.{directory_is, directory_of_block, directory_of_none}}
+use Rattle.host_memory.proofs.{FixedWalks.{block_table}, HostTables.{host_directory}, Parts.{HasSize}}
 
 -- what stays while a page is mapped: the size, the budget, and the host's own entries
 pub record HasHost (b : List ℕ) (budget : ℕ) : Type 0 where

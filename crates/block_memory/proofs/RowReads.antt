@@ -2,11 +2,9 @@
 use Rattle.std.proofs.Common.{◌≡◌, ℕ, ◌+◌, ◌*◌, ◌<◌, List, ap, ◌∙◌, arith}
 use Rattle.client_world.specs.declared.host_frames.TheConstants.{PAGE_SIZE, BLOCK_ROWS, LOCK_COUNTS, BLOCK_ROW_FRAMES, BLOCK_ROW_SIZE}
 use Rattle.client_world.specs.declared.host_frames.TheConstants.{LOCK_COUNT_FRAMES, LOCK_COUNT_SIZE}
-use Rattle.client_world.specs.declared.memory_map.TheConstants.{BLOCK_REGION_PAGES}
-use Rattle.client_world.specs.declared.limits.TheConstants.{MAX_BLOCKS}
+use Rattle.client_world.specs.{declared.memory_map.TheConstants.{BLOCK_REGION_PAGES}, declared.limits.TheConstants.{MAX_BLOCKS}}
 use Rattle.guest_ram.specs.Bytes.{dword, word_of}
-use Rattle.host_memory.specs.HoldsWorld.{frame_place}
-use Rattle.host_memory.specs.Layout.{handles_part, locks_part, base_of, pages_of, lock_of}
+use Rattle.host_memory.specs.{HoldsWorld.{frame_place}, Layout.{handles_part, locks_part, base_of, pages_of, lock_of}}
 use Rattle.host_memory.proofs.PartBytes.{part_dword, part_word}
 
 -- a row that is read

@@ -1,13 +1,9 @@
 -- Blocks that grow and shrink page by page: what they are in the end, and which places the client holds on the way.
 use Rattle.std.proofs.Common.{◌≡◌, ◌≢◌, ℕ, suc, ◌+◌, ◌-◌, ◌*◌, ◌<◌, ◌≤◌, ◌⊎◌, inl, inr, List, [], ◌++◌, length, take, slice_index_or}
 use Rattle.std.proofs.Common.{slice_set, refl, ap, ◌∙◌, sym, arith, Option, None, Some, get_or-set_same, append_assoc}
-use Rattle.std.proofs.lemmas.Bool.{cases_eq, eq-eqb, ne_eqb}
-use Rattle.std.proofs.lemmas.Grind.{same_number_lists}
-use Rattle.std.proofs.lemmas.List.{length-append, length-take, get_or-take, get_or_append_left, get_or-append_right, take_all, set-set}
-use Rattle.std.proofs.lemmas.List.{set-get_or, append-nil}
-use Rattle.client_world.specs.declared.host_frames.TheConstants.{PAGE_SIZE}
-use Rattle.client_world.specs.Access.{HasByte}
-use Rattle.client_world.specs.Soundness.{SoundBlocks, pages_of_block}
+use Rattle.std.proofs.{lemmas.Bool.{cases_eq, eq-eqb, ne_eqb}, lemmas.Grind.{same_number_lists}, lemmas.List.{length-append, length-take}}
+use Rattle.std.proofs.lemmas.List.{get_or-take, get_or_append_left, get_or-append_right, take_all, set-set, set-get_or, append-nil}
+use Rattle.client_world.specs.{declared.host_frames.TheConstants.{PAGE_SIZE}, Access.{HasByte}, Soundness.{SoundBlocks, pages_of_block}}
 use Rattle.client_world.specs.World.{MemoryBlock}
 use Rattle.guest_ram.specs.Listed.{zeros}
 use Rattle.guest_ram.proofs.ListedLaws.{length-zeros, at_zeros}
@@ -103,9 +99,6 @@ pub step_shorter : (blocks : List (Option MemoryBlock)) (place n : ℕ) (o : Opt
 step_shorter blocks place n o within = grind (arith, get_or-set_same, set-set, shorter_next)
 
 -- cut, moved and extended a block is resized
-
-front : (xs : List ℕ) (size few : ℕ) → few ≡ size → take few xs ≡ take size xs
-front xs size few e = ap (λ (k : ℕ). take k xs) e
 
 whole_front : (xs : List ℕ) (size few : ℕ) → length xs ≤ few → length xs ≤ size → take few xs ≡ take size xs
 whole_front xs size few a b = take_all few xs a ∙ sym (take_all size xs b)

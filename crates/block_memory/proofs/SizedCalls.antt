@@ -1,13 +1,10 @@
 -- What the three steps ask that give a block another address and size.
 use Rattle.std.proofs.Common.{◌≡◌, ◌≢◌, ℕ, suc, ◌+◌, ◌-◌, ◌≤◌, ◌⊎◌, inl, inr, List, length, slice_index_or, slice_set, refl, ap, ◌∙◌, sym}
-use Rattle.std.proofs.Common.{arith, Option, None, Some, get_or-set_same, get_or-set_other, length-set}
+use Rattle.std.proofs.{Common.{arith, Option, None, Some, get_or-set_same, get_or-set_other, length-set}, lemmas.List.{set-set}}
 use Rattle.std.specs.Prelude.{min}
-use Rattle.std.proofs.lemmas.List.{set-set}
-use Rattle.client_world.specs.Soundness.{SoundBlocks, pages_of_block, pages_of_blocks}
-use Rattle.client_world.specs.World.{MemoryBlock, base_of_block}
+use Rattle.client_world.specs.{Soundness.{SoundBlocks, pages_of_block, pages_of_blocks}, World.{MemoryBlock, base_of_block}}
 use Rattle.block_memory.specs.BlockSizes.{CanHold, CanMove, CanSize, HasPages, shorter, block_with_zero_pages, at_base, sized_block}
-use Rattle.block_memory.proofs.SizedBlocks.{resized_is}
-use Rattle.block_memory.proofs.SizedSound.{pages_put}
+use Rattle.block_memory.proofs.{SizedBlocks.{resized_is}, SizedSound.{pages_put}}
 
 abbrev held : List (Option MemoryBlock) → ℕ → Option MemoryBlock
 held blocks place = slice_index_or blocks place None

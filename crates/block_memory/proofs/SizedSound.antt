@@ -1,20 +1,15 @@
 -- Blocks with another block, or none, in place of one are sound, and so is the world with them.
 use Rattle.std.proofs.Common.{◌≡◌, ◌≢◌, ℕ, zero, suc, ◌+◌, ◌*◌, ◌/◌, ◌<◌, ◌≤◌, ◌⊎◌, inl, inr, List, [], ◌∷◌, ◌++◌, length, take}
 use Rattle.std.proofs.Common.{slice_index, slice_index_or, slice_set, refl, ap, ◌∙◌, sym, subst, arith, Option, None, Some, get_or-set_same}
-use Rattle.std.proofs.Common.{get_or-set_other, length-set}
-use Rattle.std.proofs.lemmas.Bool.{cases_eq, cases_lt, eq-eqb, ne_eqb}
-use Rattle.std.proofs.lemmas.List.{length-append, length-take-le, get_or-take, get_or_append_left, get_or-append_right, get_or_past}
-use Rattle.client_world.specs.declared.host_frames.TheConstants.{PAGE_SIZE}
-use Rattle.client_world.specs.declared.limits.TheConstants.{MAX_BLOCKS, GREATEST_LOCK_COUNT}
-use Rattle.client_world.specs.declared.place.Place.TheVariants.{Block}
-use Rattle.client_world.specs.declared.registers.Width.{Width}
-use Rattle.client_world.specs.Access.{bytes_of_block}
-use Rattle.client_world.specs.Soundness.{IsSound, SoundBlocks, IsBlock, AreApart, HoldBytes, SoundWidth, pages_of_block, pages_of_blocks}
-use Rattle.client_world.specs.World.{World, MemoryBlock, block_at, base_of_block}
-use Rattle.guest_ram.specs.Bytes.{put}
-use Rattle.guest_ram.specs.Listed.{zeros, copies}
-use Rattle.guest_ram.proofs.ListedLaws.{length-zeros, at_zeros, length-copies, at_copies}
-use Rattle.guest_ram.proofs.PutLaws.{length-put}
+use Rattle.std.proofs.{Common.{get_or-set_other, length-set}, lemmas.Bool.{cases_eq, cases_lt, eq-eqb, ne_eqb}, lemmas.List.{length-append}}
+use Rattle.std.proofs.lemmas.List.{length-take-le, get_or-take, get_or_append_left, get_or-append_right, get_or_past}
+use Rattle.client_world.specs.{declared.host_frames.TheConstants.{PAGE_SIZE}, declared.limits.TheConstants.{MAX_BLOCKS}}
+use Rattle.client_world.specs.{declared.limits.TheConstants.{GREATEST_LOCK_COUNT}, declared.place.Place.TheVariants.{Block}}
+use Rattle.client_world.specs.{declared.registers.Width.{Width}, Access.{bytes_of_block}, Soundness.{IsSound, SoundBlocks, IsBlock}}
+use Rattle.client_world.specs.{Soundness.{AreApart, HoldBytes, SoundWidth, pages_of_block, pages_of_blocks}, World.{World, MemoryBlock}}
+use Rattle.client_world.specs.World.{block_at, base_of_block}
+use Rattle.guest_ram.specs.{Bytes.{put}, Listed.{zeros, copies}}
+use Rattle.guest_ram.proofs.{ListedLaws.{length-zeros, at_zeros, length-copies, at_copies}, PutLaws.{length-put}}
 use Rattle.block_memory.specs.BlockSizes.{CanHold, CanMove, HasPages, longer, shorter, at_base, with_lock, with_page_lock}
 use Rattle.block_memory.specs.BlockSizes.{blocks_with_zero_page, with_zero_page, locks_of_block}
 use Rattle.block_memory.proofs.PageChanges.{HasLast}

@@ -1,12 +1,11 @@
 -- What a run of bytes that moves leaves: the bytes, and the doublewords and words that they make.
-use Rattle.std.proofs.Common.{◌≡◌, ℕ, ◌+◌, ◌-◌, ◌*◌, ◌<◌, ◌≤◌, ◌⊎◌, List, length, slice_index, ap, ◌∙◌, arith}
-use Rattle.std.proofs.lemmas.Bool.{lt-ltb, le-ltb}
+use Rattle.std.proofs.{Common.{◌≡◌, ℕ, ◌+◌, ◌-◌, ◌*◌, ◌<◌, ◌≤◌, ◌⊎◌, List, length, slice_index, ap, ◌∙◌, arith}, lemmas.Bool.{lt-ltb}}
+use Rattle.std.proofs.lemmas.Bool.{le-ltb}
 use Rattle.client_world.specs.declared.host_frames.TheConstants.{LOCK_COUNT_SIZE, PAGE_ENTRY_SIZE}
 use Rattle.client_world.specs.declared.memory_map.TheConstants.{BLOCK_REGION_PAGES}
-use Rattle.guest_ram.specs.Bytes.{put, region, dword, word_of}
-use Rattle.guest_ram.specs.Listed.{copies}
-use Rattle.guest_ram.proofs.ListedLaws.{length-copies, at_copies}
-use Rattle.guest_ram.proofs.PutLaws.{length-put, length-region, at_region, put_away, put_within, same_dword}
+use Rattle.guest_ram.specs.{Bytes.{put, region, dword, word_of}, Listed.{copies}}
+use Rattle.guest_ram.proofs.{ListedLaws.{length-copies, at_copies}, PutLaws.{length-put, length-region, at_region, put_away, put_within}}
+use Rattle.guest_ram.proofs.PutLaws.{same_dword}
 use Rattle.block_memory.specs.BlockSizes.{vacant_count, vacant_start, after_slide}
 use Rattle.host_memory.specs.Layout.{entry_of, lock_of}
 use Rattle.block_memory.proofs.BlockMoves.{GoAlong}
@@ -20,11 +19,6 @@ record Leaves (from to n at count : ℕ) : Type 0 where
 
 leaves : (from to n : ℕ) → Leaves from to n (vacant_start from to n) (vacant_count from to n)
 leaves from to n = grind (arith, le-ltb, lt-ltb)
-
-pub length-slid : (b : List ℕ) (from to n : ℕ) → length (after_slide b from to n) ≡ length b
-unfolding after_slide
-length-slid b from to n = length-put (put b to (region b from n)) (vacant_start from to n) (copies (vacant_count from to n) 0)
-    ∙ length-put b to (region b from n)
 
 -- both runs are inside
 pub record Inside (b : List ℕ) (from to n : ℕ) : Type 0 where

@@ -1,38 +1,21 @@
 -- A page of a block is cleared.
 use Rattle.std.proofs.Common.{◌≡◌, ◌≢◌, ℕ, ◌+◌, ◌-◌, ◌*◌, ◌/◌, ◌%◌, ◌<◌, ◌≤◌, inl, inr, Bool, List, length, get_or, slice_index, slice_set}
-use Rattle.std.proofs.Common.{refl, ap, ◌∙◌, sym, arith, Option}
-use Rattle.std.proofs.lemmas.Bool.{cases_eq}
-use Rattle.std.proofs.lemmas.Grind.{same_number_lists}
-use Rattle.client_world.specs.declared.host_frames.TheConstants.{PAGE_SIZE, BUDGET_FRAMES}
-use Rattle.client_world.specs.declared.limits.TheConstants.{MAX_BLOCKS}
-use Rattle.client_world.specs.declared.memory_map.TheConstants.{BLOCK_REGION_PAGES}
-use Rattle.client_world.specs.declared.place.Place.{Place}
-use Rattle.client_world.specs.declared.registers.Mode.{Mode}
-use Rattle.client_world.specs.declared.registers.Regs.{Regs}
-use Rattle.client_world.specs.declared.registers.Width.{Width}
-use Rattle.client_world.specs.Access.{place_in}
-use Rattle.client_world.specs.World.{MemoryBlock}
-use Rattle.guest_ram.specs.Bytes.{put}
-use Rattle.guest_ram.specs.Listed.{listed, copies}
-use Rattle.guest_ram.proofs.PutLaws.{length-put, put_away, put_within}
-use Rattle.guest_ram.proofs.ListedLaws.{length-listed, at_listed, same_listed, listed-set, length-copies, at_copies}
-use Rattle.block_memory.specs.BlockSizes.{IsBlocks, blocks_with_zero_page, with_zero_page}
+use Rattle.std.proofs.{Common.{refl, ap, ◌∙◌, sym, arith, Option}, lemmas.Bool.{cases_eq}, lemmas.Grind.{same_number_lists}}
+use Rattle.client_world.specs.{declared.host_frames.TheConstants.{PAGE_SIZE, BUDGET_FRAMES}, declared.limits.TheConstants.{MAX_BLOCKS}}
+use Rattle.client_world.specs.{declared.memory_map.TheConstants.{BLOCK_REGION_PAGES}, declared.place.Place.{Place}}
+use Rattle.client_world.specs.{declared.registers.Mode.{Mode}, declared.registers.Regs.{Regs}, declared.registers.Width.{Width}}
+use Rattle.client_world.specs.{Access.{place_in}, World.{MemoryBlock}}
+use Rattle.guest_ram.specs.{Bytes.{put}, Listed.{listed, copies}}
+use Rattle.guest_ram.proofs.{PutLaws.{length-put, put_away, put_within}, ListedLaws.{length-listed, at_listed, same_listed, listed-set}}
+use Rattle.guest_ram.proofs.ListedLaws.{length-copies, at_copies}
+use Rattle.block_memory.specs.{BlockSizes.{IsBlocks, blocks_with_zero_page, with_zero_page}, BlockChanges.{blocks_held}}
 use Rattle.page_tables.proofs.FreeWrites.{dword_put_beside}
-use Rattle.host_memory.specs.Holds.{Holds}
-use Rattle.host_memory.specs.Layout.{world_of, address_of, handles_part, tables_part, rows_part, pages_of, first_page_of, entry_of}
-use Rattle.host_memory.specs.Layout.{page_byte, held_block, block_in, blocks_in}
-use Rattle.host_memory.specs.Tables.{HasBlockEntries, NamesBudgetFrame}
-use Rattle.host_memory.proofs.BlockBytes.{apart_pages, page_small}
-use Rattle.host_memory.proofs.FreeParts.{list_kept}
-use Rattle.host_memory.proofs.IdleFrames.{entry_away}
-use Rattle.host_memory.proofs.BlockRows.{HasRanges, row_there, row_free, block_at_row}
-use Rattle.block_memory.proofs.LockWrites.{block_byte}
-use Rattle.block_memory.specs.BlockChanges.{blocks_held}
-use Rattle.block_memory.proofs.PageChanges.{world_after}
-use Rattle.block_memory.proofs.PageWrites.{host_of, sizes_of}
-use Rattle.host_memory.proofs.Parts.{MemoryParts, parts_of, holds_by, holds_parts, addresses_by}
-use Rattle.host_memory.proofs.PutParts.{put_frames, size_put}
-use Rattle.block_memory.proofs.RegionPages.{page_at}
+use Rattle.host_memory.specs.{Holds.{Holds}, Layout.{world_of, address_of, handles_part, tables_part, rows_part, pages_of, first_page_of}}
+use Rattle.host_memory.specs.{Layout.{entry_of, page_byte, held_block, block_in, blocks_in}, Tables.{HasBlockEntries, NamesBudgetFrame}}
+use Rattle.host_memory.proofs.{BlockBytes.{apart_pages, page_small}, FreeParts.{list_kept}, IdleFrames.{entry_away}, BlockRows.{HasRanges}}
+use Rattle.host_memory.proofs.{BlockRows.{row_there, row_free, block_at_row}, Parts.{MemoryParts, parts_of, holds_by, holds_parts}}
+use Rattle.host_memory.proofs.{Parts.{addresses_of, own_parts}, PutParts.{Frames, put_part}}
+use Rattle.block_memory.proofs.{LockWrites.{block_byte}, PageChanges.{world_after}, PageWrites.{host_of, sizes_of}, RegionPages.{page_at}}
 
 -- the frame of the budget that an entry names
 abbrev pub frame_named : ℕ → ℕ
@@ -164,8 +147,8 @@ clears_page b budget lin holds ranges is =
     let from = names.from in let to = names.to in
     let frame = frame_named (entry_of p.tables (page_at lin)) in
     let c : Clears p.handles p.tables p.taken p.frames budget byte.place (byte.at / PAGE_SIZE) frame = grind arith in
-    let e = put_frames b budget (PAGE_SIZE * (entry_of p.tables (page_at lin) / PAGE_SIZE)) (PAGE_SIZE * frame) (copies PAGE_SIZE 0)
-    holds.size (omega arith) (omega (arith, length-copies PAGE_SIZE 0)) in
+    let e = put_part Frames b budget p (PAGE_SIZE * (entry_of p.tables (page_at lin) / PAGE_SIZE)) (PAGE_SIZE * frame) (copies PAGE_SIZE 0)
+    (own_parts b budget holds) (omega arith) (omega (arith, length-copies PAGE_SIZE 0)) in
     let q : MemoryParts = record p { frames = cleared_frame p.frames frame } in
     let h = holds_parts b budget holds in
     let blocks : blocks_in p.handles p.tables p.locks (cleared_frame p.frames frame)
@@ -182,10 +165,10 @@ clears_page b budget lin holds ranges is =
     record {
       from = names.from;
       to = names.to;
-      holds = holds_by (page_cleared b lin) budget q e (size_put b budget _ (copies PAGE_SIZE 0) holds.size) holds.most
+      holds = holds_by (page_cleared b lin) budget q e holds.most
           (grind (arith, dword_put_beside, entry_away, length-copies, list_kept));
       world = λ mode regs vif width. world_after b (page_cleared b lin) budget q e refl mode regs vif width
           ∙ ap (λ (bs : List (Option MemoryBlock)). record (world_of b budget mode regs vif width) { blocks = bs }) blocks;
-      rows = ap (λ (x : MemoryParts). x.rows) e;
-      addresses = addresses_by b (page_cleared b lin) (ap (λ (x : MemoryParts). x.handles) e) (ap (λ (x : MemoryParts). x.tables) e);
+      rows = ap (λ (x : MemoryParts). x.rows) e.are;
+      addresses = addresses_of b (page_cleared b lin) budget q e refl refl;
     }

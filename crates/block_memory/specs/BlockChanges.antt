@@ -1,16 +1,10 @@
 -- The blocks that a memory holds, and a change of them alone. Source: own.
-use Rattle.std.specs.Prelude.{◌≡◌, ◌≢◌, ◌<◌, ℕ, suc, Bool, List, None, slice_index_or, slice_set}
-use Rattle.std.specs.declared.option.Option.{Option}
-use Rattle.client_world.specs.declared.place.Place.{Place}
-use Rattle.client_world.specs.declared.registers.Mode.{Mode}
-use Rattle.client_world.specs.declared.registers.Regs.{Regs}
-use Rattle.client_world.specs.declared.registers.Width.{Width}
-use Rattle.client_world.specs.Access.{IsHeldIn}
-use Rattle.client_world.specs.Soundness.{SoundBlocks, HoldBytes}
-use Rattle.client_world.specs.declared.limits.TheConstants.{MAX_BLOCKS}
-use Rattle.client_world.specs.World.{MemoryBlock}
-use Rattle.host_memory.specs.Holds.{Holds}
-use Rattle.host_memory.specs.Layout.{world_of, address_of, rows_part, handles_part, tables_part, locks_part, budget_part, blocks_in}
+use Rattle.std.specs.{Prelude.{◌≡◌, ◌≢◌, ◌<◌, ℕ, suc, Bool, List, None, slice_index_or, slice_set}, declared.option.Option.{Option}}
+use Rattle.client_world.specs.{declared.place.Place.{Place}, declared.registers.Mode.{Mode}, declared.registers.Regs.{Regs}}
+use Rattle.client_world.specs.{declared.registers.Width.{Width}, Access.{IsHeldIn}, Soundness.{SoundBlocks, HoldBytes}}
+use Rattle.client_world.specs.{declared.limits.TheConstants.{MAX_BLOCKS}, World.{MemoryBlock}}
+use Rattle.host_memory.specs.{Holds.{Holds}, Layout.{world_of, address_of, rows_part, handles_part, tables_part, locks_part, budget_part}}
+use Rattle.host_memory.specs.Layout.{blocks_in}
 use Rattle.block_memory.specs.BlockSizes.{CanHold, CanMove, CanSize, HasPages}
 
 -- the blocks that a memory holds, for a page budget

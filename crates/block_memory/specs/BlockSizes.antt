@@ -1,21 +1,14 @@
 -- Memory blocks made, and blocks with more pages or fewer. Source: DPMI 0.9, INT 31h functions 0501h to 0503h; own.
 use Rattle.std.specs.Prelude.{◌≡◌, ◌≢◌, ◌⊎◌, ℕ, ◌+◌, ◌-◌, ◌*◌, ◌/◌, ◌%◌, ⊤, ◌<◌, ◌≤◌, min, nat_eq, nat_lt, if◌then◌else◌, List, [], ◌∷◌}
-use Rattle.std.specs.Prelude.{◌++◌, None, Some, take, length, slice_index, slice_index_or, slice_set}
-use Rattle.std.specs.List.{range_with_len}
+use Rattle.std.specs.{Prelude.{◌++◌, None, Some, take, length, slice_index, slice_index_or, slice_set}, List.{range_with_len}}
 use Rattle.std.specs.declared.option.Option.{Option}
-use Rattle.client_world.specs.declared.blocks.BlockRow.{BlockRow}
-use Rattle.client_world.specs.declared.host_frames.TheConstants.{PAGE_SIZE}
-use Rattle.client_world.specs.declared.limits.TheConstants.{MAX_BLOCKS}
-use Rattle.client_world.specs.declared.memory_map.TheConstants.{BLOCK_REGION, BLOCK_REGION_END}
-use Rattle.client_world.specs.declared.place.Place.{Place}
-use Rattle.client_world.specs.declared.place.Place.TheVariants.{Dos, Block, Host, Nothing}
-use Rattle.client_world.specs.Access.{bytes_of_block}
-use Rattle.client_world.specs.Soundness.{pages_of_block, pages_of_blocks}
-use Rattle.client_world.specs.World.{MemoryBlock, base_of_block, block_at, with_block_at}
-use Rattle.guest_ram.specs.Count.{used, total}
-use Rattle.guest_ram.specs.Listed.{zeros, copies, listed}
+use Rattle.client_world.specs.{declared.blocks.BlockRow.{BlockRow}, declared.host_frames.TheConstants.{PAGE_SIZE}}
+use Rattle.client_world.specs.{declared.limits.TheConstants.{MAX_BLOCKS}, declared.memory_map.TheConstants.{BLOCK_REGION, BLOCK_REGION_END}}
+use Rattle.client_world.specs.{declared.place.Place.{Place}, declared.place.Place.TheVariants.{Dos, Block, Host, Nothing}}
+use Rattle.client_world.specs.{Access.{bytes_of_block}, Soundness.{pages_of_block, pages_of_blocks}, World.{MemoryBlock, base_of_block}}
+use Rattle.client_world.specs.World.{block_at, with_block_at}
+use Rattle.guest_ram.specs.{Count.{used, total}, Listed.{zeros, copies, listed}, Bytes.{put, region}}
 use Rattle.host_memory.specs.Layout.{pages_of, first_page_of, lock_of}
-use Rattle.guest_ram.specs.Bytes.{put, region}
 
 -- the lock counts of a block, if there is one
 abbrev pub locks_of_block : Option MemoryBlock → List ℕ

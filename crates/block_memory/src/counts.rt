@@ -4,8 +4,7 @@ ghost use Rattle.client_world.specs.declared.host_frames.TheConstants.{PAGE_SIZE
 ghost use Rattle.client_world.specs.declared.limits.TheConstants.{MAX_BLOCKS, MAX_PAGES};
 ghost use Rattle.client_world.specs.declared.memory_map.TheConstants.{BLOCK_REGION_PAGES};
 ghost use Rattle.block_memory.specs.BlockSizes.{all_locked, locked_run};
-ghost use Rattle.host_memory.specs.Holds.{all_pages};
-ghost use Rattle.host_memory.specs.Layout.{handles_part, locks_part, pages_of, first_page_of};
+ghost use Rattle.host_memory.specs.{Holds.{all_pages}, Layout.{handles_part, locks_part, pages_of, first_page_of}};
 
 use client_world::host_frames::{
     BLOCK_ROW_SIZE, BLOCK_ROWS, LOCK_COUNT_SIZE, LOCK_COUNTS, PAGE_SIZE,

@@ -1,8 +1,8 @@
 // The rows of the blocks, and the pages of the block region.
 ghost use Rattle.std.specs.Prelude.{◌≡◌, ◌≤◌, ◌<◌, ◌+◌, ◌-◌, ◌*◌, ◌/◌, length};
 ghost use Rattle.client_world.specs.declared.host_frames.TheConstants.{PAGE_SIZE, BUDGET_FRAMES, BLOCK_ROWS};
-ghost use Rattle.client_world.specs.declared.limits.TheConstants.{MAX_BLOCKS};
-ghost use Rattle.client_world.specs.declared.memory_map.TheConstants.{BLOCK_REGION, BLOCK_REGION_END, BLOCK_REGION_PAGES};
+ghost use Rattle.client_world.specs.{declared.limits.TheConstants.{MAX_BLOCKS}, declared.memory_map.TheConstants.{BLOCK_REGION}};
+ghost use Rattle.client_world.specs.declared.memory_map.TheConstants.{BLOCK_REGION_END, BLOCK_REGION_PAGES};
 ghost use Rattle.guest_ram.specs.Bytes.{put, dword_bytes};
 
 use client_world::host_frames::{BLOCK_ROW_SIZE, BLOCK_ROWS, PAGE_SIZE};

@@ -1,13 +1,9 @@
 -- The most pages that a new block would find free in a row.
-use Rattle.std.proofs.Common.{◌≡◌, ◌≢◌, ◌∙◌, ℕ, zero, suc, true, inl, inr, min, List, sym, arith, refl, Option, None, Some}
-use Rattle.std.proofs.Common.{nat_le}
-use Rattle.std.specs.Option.{is_some}
+use Rattle.std.proofs.Common.{◌≡◌, ◌≢◌, ◌∙◌, ℕ, zero, suc, true, inl, inr, min, List, sym, arith, refl, Option, None, Some, nat_le}
 use Rattle.std.proofs.lemmas.Bool.{cases_Bool, leb-true, leb-false}
-use Rattle.client_world.specs.Soundness.{SoundBlocks}
-use Rattle.client_world.specs.World.{MemoryBlock}
-use Rattle.block_services.specs.declared.spans.Span.{Span}
-use Rattle.block_services.specs.Free.{largest_new_block}
-use Rattle.block_services.specs.Gaps.{first_gap}
+use Rattle.std.specs.Option.{is_some}
+use Rattle.client_world.specs.{Soundness.{SoundBlocks}, World.{MemoryBlock}}
+use Rattle.block_services.specs.{declared.spans.Span.{Span}, Free.{largest_new_block}, Gaps.{first_gap}}
 use Rattle.block_services.proofs.SpanLaws.{AreSorted, found_is, wide_found, wide_missed, widest}
 
 some_is : (o : Option ℕ) → o ≢ None → is_some o ≡ true

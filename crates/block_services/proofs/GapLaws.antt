@@ -1,13 +1,10 @@
 -- Rows of blocks, and the search for pages that none of them has.
-use Rattle.std.proofs.Common.{◌≡◌, ◌≤◌, ◌<◌, ◌+◌, ◌-◌, ◌*◌, ◌%◌, ℕ, Bool, true, false, IfSome, List, refl, sym, ap, subst, arith}
-use Rattle.std.proofs.Common.{Option, None, Some}
+use Rattle.std.proofs.Common.{◌≡◌, ◌≤◌, ◌<◌, ◌+◌, ◌-◌, ◌*◌, ◌%◌, ℕ, Bool, true, false, IfSome, List, refl, sym, ap, subst, arith, Option}
+use Rattle.std.proofs.{Common.{None, Some}, lemmas.Bool.{and_from, and_left, le-leb, lt-leb}}
 use Rattle.std.specs.Option.{is_none}
-use Rattle.std.proofs.lemmas.Bool.{and_from, and_left, le-leb, lt-leb}
-use Rattle.client_world.specs.declared.blocks.BlockRow.{BlockRow}
-use Rattle.client_world.specs.declared.host_frames.TheConstants.{PAGE_SIZE}
+use Rattle.client_world.specs.{declared.blocks.BlockRow.{BlockRow}, declared.host_frames.TheConstants.{PAGE_SIZE}}
 use Rattle.client_world.specs.declared.memory_map.TheConstants.{BLOCK_REGION, BLOCK_REGION_END, BLOCK_REGION_PAGES}
-use Rattle.client_world.specs.Soundness.{SoundBlocks, pages_of_block}
-use Rattle.client_world.specs.World.{MemoryBlock, block_at, base_of_block}
+use Rattle.client_world.specs.{Soundness.{SoundBlocks, pages_of_block}, World.{MemoryBlock, block_at, base_of_block}}
 use Rattle.block_memory.specs.BlockSizes.{row_seen}
 use Rattle.service_rows.specs.FirstIndex.{first_index}
 use Rattle.service_rows.proofs.IndexLaws.{index_ended, index_found}

@@ -1,20 +1,17 @@
 -- Blocks after each service are sound, and hold bytes.
 use Rattle.std.proofs.Common.{◌≡◌, ◌≤◌, ◌<◌, ◌+◌, ◌-◌, ◌*◌, ◌/◌, inl, inr, ℕ, zero, suc, List, ◌++◌, length, min, take, slice_index}
 use Rattle.std.proofs.Common.{slice_index_or, slice_set, refl, sym, ◌∙◌, subst, arith, Option, None, Some, nat_eq, length-append}
-use Rattle.std.proofs.lemmas.Bool.{cases_Bool, cases_lt}
-use Rattle.std.proofs.lemmas.List.{get_or_append_left, get_or_past, get_or-append_right, get_or-take, length-take, set_past}
-use Rattle.client_world.specs.declared.host_frames.TheConstants.{PAGE_SIZE}
-use Rattle.client_world.specs.declared.limits.TheConstants.{MAX_BLOCKS, GREATEST_LOCK_COUNT}
-use Rattle.client_world.specs.declared.place.Place.{Place}
-use Rattle.client_world.specs.declared.place.Place.TheVariants.{Dos, Block, Host, Nothing}
-use Rattle.client_world.specs.Soundness.{AreApart, HoldBytes, IsBlock, SoundBlocks}
-use Rattle.client_world.specs.World.{MemoryBlock, block_at, with_block_at}
+use Rattle.std.proofs.{lemmas.Bool.{cases_Bool, cases_lt}, lemmas.List.{get_or_append_left, get_or_past, get_or-append_right, get_or-take}}
+use Rattle.std.proofs.lemmas.List.{length-take, set_past}
+use Rattle.client_world.specs.{declared.host_frames.TheConstants.{PAGE_SIZE}, declared.limits.TheConstants.{MAX_BLOCKS}}
+use Rattle.client_world.specs.{declared.limits.TheConstants.{GREATEST_LOCK_COUNT}, declared.place.Place.{Place}}
+use Rattle.client_world.specs.{declared.place.Place.TheVariants.{Dos, Block, Host, Nothing}, Soundness.{AreApart, HoldBytes, IsBlock}}
+use Rattle.client_world.specs.{Soundness.{SoundBlocks}, World.{MemoryBlock, block_at, with_block_at}}
 use Rattle.guest_ram.specs.Listed.{zeros}
 use Rattle.guest_ram.proofs.ListedLaws.{at_zeros, length-zeros}
 use Rattle.block_memory.specs.BlockSizes.{CanMake, CanSize, fresh_block, lock_in, sized_block, with_lock, blocks_with_zero_page}
 use Rattle.block_memory.proofs.SizedSound.{bytes_put, locked_fits, locked_sound, sound_put, zeroed_fits, zeroed_sound}
-use Rattle.block_services.specs.declared.regions.Change.{Change}
-use Rattle.block_services.specs.declared.regions.Change.TheVariants.{Lock, Unlock, Discard}
+use Rattle.block_services.specs.{declared.regions.Change.{Change}, declared.regions.Change.TheVariants.{Lock, Unlock, Discard}}
 use Rattle.block_services.specs.Pages.{changed, changed_page, page_place}
 
 pub record Good (blocks : List (Option MemoryBlock)) (budget : ℕ) : Type 0 where

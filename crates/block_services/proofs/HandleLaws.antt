@@ -1,9 +1,8 @@
 -- The lowest handle that isn't held.
 use Rattle.std.proofs.Common.{◌≡◌, ◌≤◌, ℕ, zero, suc, Bool, true, List, length, refl, arith, Option, None, Some}
 use Rattle.std.proofs.lemmas.List.{get_or_past}
-use Rattle.client_world.specs.declared.limits.TheConstants.{MAX_BLOCKS}
+use Rattle.client_world.specs.{declared.limits.TheConstants.{MAX_BLOCKS}, World.{MemoryBlock, block_at}}
 use Rattle.std.specs.Option.{is_none}
-use Rattle.client_world.specs.World.{MemoryBlock, block_at}
 
 abbrev pub is_free : List (Option MemoryBlock) → ℕ → Bool
 is_free blocks handle = is_none (block_at blocks handle)

@@ -1,27 +1,14 @@
 -- Which pages are blocks', and changes of one page after another.
-use Rattle.std.proofs.Common.{◌≡◌, ◌≤◌, ◌<◌, ◌+◌, ◌-◌, ◌*◌, ◌%◌, ◌⊎◌, inl, inr, ℕ, zero, suc, Bool, true, false, not, List, [], ◌∷◌, length}
-use Rattle.std.proofs.Common.{slice_index_or, slice_set, refl, sym, ◌∙◌, ap, arith, Option, None, Some, nat_eq, nat_lt}
-use Rattle.std.specs.Option.{is_some}
-use Rattle.std.proofs.lemmas.Bool.{and_from, and_left, and_parts, and_right, cases_Bool, le-leb, le-ltb, lt-leb, lt-ltb, ltb-true}
-use Rattle.std.proofs.lemmas.List.{get_or_past}
-use Rattle.client_world.specs.declared.host_frames.TheConstants.{PAGE_SIZE}
-use Rattle.client_world.specs.declared.limits.TheConstants.{MAX_BLOCKS}
-use Rattle.client_world.specs.declared.memory_map.TheConstants.{BLOCK_REGION, BLOCK_REGION_END, DOS_VIEW_PAGES}
-use Rattle.client_world.specs.declared.place.Place.{Place}
-use Rattle.client_world.specs.declared.place.Place.TheVariants.{Dos, Block, Host, Nothing}
-use Rattle.client_world.specs.Access.{block_place, covers, place_in}
-use Rattle.client_world.specs.Soundness.{SoundBlocks}
-use Rattle.client_world.specs.World.{World, MemoryBlock, block_at}
+use Rattle.std.proofs.Common.{◌≡◌, ◌≤◌, ◌<◌, ◌+◌, ◌-◌, ◌*◌, ◌⊎◌, inl, inr, ℕ, suc, Bool, true, false, List, [], ◌∷◌, length, slice_set}
+use Rattle.std.proofs.{Common.{refl, sym, ◌∙◌, ap, arith, Option, None, Some}, lemmas.Bool.{cases_Bool}}
+use Rattle.client_world.specs.{declared.host_frames.TheConstants.{PAGE_SIZE}, declared.memory_map.TheConstants.{BLOCK_REGION}}
+use Rattle.client_world.specs.{declared.memory_map.TheConstants.{BLOCK_REGION_END}, declared.place.Place.{Place}}
+use Rattle.client_world.specs.{declared.place.Place.TheVariants.{Dos, Block, Host, Nothing}, Access.{block_place, covers, may_touch}}
+use Rattle.client_world.specs.{Access.{place_in}, World.{World, MemoryBlock}}
 use Rattle.client_world.proofs.PlaceLaws.{place-block}
-use Rattle.guest_space.specs.VectorLists.{is_pageable}
-use Rattle.block_memory.specs.BlockSizes.{IsBlocks, lock_in, row_seen}
+use Rattle.block_memory.specs.BlockSizes.{IsBlocks, lock_in}
 use Rattle.block_memory.proofs.LockWrites.{in_region_of, no_lock}
-use Rattle.service_rows.proofs.IndexLaws.{first_is, first_none}
-use Rattle.block_services.specs.declared.regions.Change.{Change}
-use Rattle.block_services.specs.Gaps.{block_in_way, is_in_way, overlaps}
-use Rattle.block_services.specs.Pages.{changed, changed_page, is_blocks, page_place, with_pages}
-use Rattle.block_services.proofs.HandleLaws.{handle_within}
-use Rattle.block_services.proofs.RoomLaws.{passed}
+use Rattle.block_services.specs.{declared.regions.Change.{Change}, Pages.{changed, changed_page, is_blocks, page_place, with_pages}}
 
 blocks_true : (p : Place) → is_blocks p ≡ true → IsBlocks p
 blocks_true (Dos at) e = absurd cc
@@ -44,73 +31,21 @@ pub no_page_lock : (blocks : List (Option MemoryBlock)) (page : ℕ) → BLOCK_R
     0 ≡ lock_in blocks (page_place blocks page)
 no_page_lock blocks page out = sym (no_lock blocks (PAGE_SIZE * page) (inr out))
 
-pub not_pageable : (pages : List Bool) (page : ℕ) → length pages ≡ DOS_VIEW_PAGES → DOS_VIEW_PAGES ≤ page → false ≡ is_pageable pages page
-not_pageable pages page long past = sym (get_or_past pages page false (omega arith))
-
--- a list of blocks covers an address where one of them does
-found_place : (blocks : List (Option MemoryBlock)) (handle lin place : ℕ) (block : MemoryBlock) →
-    slice_index_or blocks place None ≡ Some block →
-    covers block lin ≡ true → is_blocks (block_place blocks handle lin) ≡ true
-found_place [] handle lin place block e over = absurd cc
-found_place (None ∷ blocks) handle lin zero block e over = absurd cc
-found_place (None ∷ blocks) handle lin (suc place) block e over = found_place blocks (handle + 1) lin place block e over
-found_place (Some own ∷ blocks) handle lin zero block e over =
-    let same : own ≡ block = cc e in
-    rw (ap (λ (b : MemoryBlock). covers b lin) same ∙ over) refl
-found_place (Some own ∷ blocks) handle lin (suc place) block e over = elim (cases_Bool (covers own lin)) [
+-- a place that the blocks' addresses give is a block's where the client may read it
+readable_place : (blocks : List (Option MemoryBlock)) (handle lin : ℕ) →
+    may_touch (block_place blocks handle lin) false ≡ is_blocks (block_place blocks handle lin)
+readable_place [] handle lin = refl
+readable_place (None ∷ blocks) handle lin = readable_place blocks (handle + 1) lin
+readable_place (Some own ∷ blocks) handle lin = elim (cases_Bool (covers own lin)) [
   | inl t ↦ rw t refl
-  | inr t ↦ rw t (found_place blocks (handle + 1) lin place block e over)
+  | inr t ↦ rw t (readable_place blocks (handle + 1) lin)
 ]
 
-none_place : (blocks : List (Option MemoryBlock)) (handle lin : ℕ) →
-    ((place : ℕ) (block : MemoryBlock) → slice_index_or blocks place None ≡ Some block → covers block lin ≡ false) →
-    is_blocks (block_place blocks handle lin) ≡ false
-none_place [] handle lin none = refl
-none_place (None ∷ blocks) handle lin none = none_place blocks (handle + 1) lin (λ place block e. none (suc place) block e)
-none_place (Some own ∷ blocks) handle lin none =
-    rw (none 0 own refl) (none_place blocks (handle + 1) lin (λ place block e. none (suc place) block e))
-
-over_page : (blocks : List (Option MemoryBlock)) (budget handle lin : ℕ) → SoundBlocks blocks budget → lin % PAGE_SIZE ≡ 0 →
-    (b : Option MemoryBlock) →
-    block_at blocks handle ≡ b → overlaps (row_seen b) lin 1 ≡ true → is_blocks (block_place blocks 1 lin) ≡ true
-over_page blocks budget zero lin sound whole None e here = absurd cc
-over_page blocks budget zero lin sound whole (Some block) e here = absurd cc
-over_page blocks budget (suc place) lin sound whole None e here = absurd cc
-over_page blocks budget (suc place) lin sound whole (Some block) e here =
-    let is = sound.each (suc place) block e in
-    let aligned = is.whole in let size = is.pages in
-    let parts = and_parts (nat_lt block.base (lin + PAGE_SIZE * 1)) (nat_lt lin (block.base + PAGE_SIZE * length block.locks)) here in
-    let low = ltb-true block.base (lin + PAGE_SIZE * 1) parts.0 in
-    let high = ltb-true lin (block.base + PAGE_SIZE * length block.locks) parts.1 in
-    found_place blocks 1 lin place block e
-    (and_from _ _ (le-leb block.base lin (omega arith)) (lt-ltb lin (block.base + length block.bytes) (omega arith)))
-
-clear_of : (block : MemoryBlock) (lin : ℕ) → (lin + PAGE_SIZE * 1 ≤ block.base) ⊎ (block.base + length block.bytes ≤ lin) →
-    covers block lin ≡ false
-clear_of block lin apart = elim apart [
-  | inl before ↦ and_left _ _ (lt-leb block.base lin (omega arith))
-  | inr behind ↦ and_right _ _ (le-ltb lin (block.base + length block.bytes) behind)
-]
-
-by_way : (blocks : List (Option MemoryBlock)) (budget lin : ℕ) → SoundBlocks blocks budget → lin % PAGE_SIZE ≡ 0 → (o : Option ℕ) →
-    block_in_way blocks 0 lin 1 ≡ o → is_some o ≡ is_blocks (block_place blocks 1 lin)
-unfolding block_in_way
-by_way blocks budget lin sound whole (Some handle) e =
-    let found = first_is (is_in_way blocks 0 lin 1) 1 MAX_BLOCKS handle e in
-    let parts = and_parts (not (nat_eq handle 0)) (overlaps (row_seen (block_at blocks handle)) lin 1) found.here in
-    sym (over_page blocks budget handle lin sound whole (block_at blocks handle) refl parts.1)
-by_way blocks budget lin sound whole None e =
-    sym (none_place blocks 1 lin (λ place block there. (
-    let h = handle_within blocks (suc place) block sound.handles there in
-    clear_of block lin (passed blocks budget 0 lin 1 sound (suc place) block (λ z. omega arith) there
-    (first_none (is_in_way blocks 0 lin 1) 1 MAX_BLOCKS e (suc place) h.some (omega (arith, h.most)))))))
-
--- a page of the block region is a block's where a block is in the way of it
-pub page_of_block : (blocks : List (Option MemoryBlock)) (budget page : ℕ) → SoundBlocks blocks budget → BLOCK_REGION ≤ PAGE_SIZE * page →
-    PAGE_SIZE * page < BLOCK_REGION_END → is_some (block_in_way blocks 0 (PAGE_SIZE * page) 1) ≡ is_blocks (page_place blocks page)
-page_of_block blocks budget page sound from to =
-    by_way blocks budget (PAGE_SIZE * page) sound (omega arith) (block_in_way blocks 0 (PAGE_SIZE * page) 1) refl
-    ∙ sym (ap is_blocks (place-block blocks (PAGE_SIZE * page) from to))
+-- a page of the block region is a block's where the client may read its first byte
+pub page_of_block : (blocks : List (Option MemoryBlock)) (page : ℕ) → BLOCK_REGION ≤ PAGE_SIZE * page →
+    PAGE_SIZE * page < BLOCK_REGION_END → may_touch (page_place blocks page) false ≡ is_blocks (page_place blocks page)
+page_of_block blocks page from to =
+    rw (place-block blocks (PAGE_SIZE * page) from to) (readable_place blocks 1 (PAGE_SIZE * page))
 
 -- the loops in code
 

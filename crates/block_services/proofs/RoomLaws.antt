@@ -1,19 +1,15 @@
 -- A gap is room for a block.
 use Rattle.std.proofs.Common.{◌≡◌, ◌≢◌, ◌≤◌, ◌<◌, ◌+◌, ◌-◌, ◌*◌, ◌%◌, ◌⊎◌, inl, inr, ℕ, true, false, List, length, refl, ◌∙◌, ap, subst}
-use Rattle.std.proofs.Common.{arith, Option, None, Some, nat_le}
+use Rattle.std.proofs.{Common.{arith, Option, None, Some, nat_le}, lemmas.Bool.{and_cases, and_parts, cases_Bool, leb-true, ltb-false}}
+use Rattle.std.proofs.lemmas.Bool.{ne_eqb, not_from_false, true≢false}
 use Rattle.std.specs.Option.{is_none}
-use Rattle.std.proofs.lemmas.Bool.{and_cases, and_parts, cases_Bool, leb-true, ltb-false, ne_eqb, not_from_false, true≢false}
-use Rattle.client_world.specs.declared.blocks.BlockRow.{BlockRow}
-use Rattle.client_world.specs.declared.host_frames.TheConstants.{PAGE_SIZE}
-use Rattle.client_world.specs.declared.limits.TheConstants.{MAX_BLOCKS}
-use Rattle.client_world.specs.declared.memory_map.TheConstants.{BLOCK_REGION, BLOCK_REGION_END}
-use Rattle.client_world.specs.Soundness.{SoundBlocks, pages_of_block, pages_of_blocks}
-use Rattle.client_world.specs.World.{MemoryBlock, block_at, base_of_block}
+use Rattle.client_world.specs.{declared.blocks.BlockRow.{BlockRow}, declared.host_frames.TheConstants.{PAGE_SIZE}}
+use Rattle.client_world.specs.{declared.limits.TheConstants.{MAX_BLOCKS}, declared.memory_map.TheConstants.{BLOCK_REGION, BLOCK_REGION_END}}
+use Rattle.client_world.specs.{Soundness.{SoundBlocks, pages_of_block, pages_of_blocks}, World.{MemoryBlock, block_at, base_of_block}}
 use Rattle.block_memory.specs.BlockSizes.{CanMake, CanSize, row_seen}
 use Rattle.service_rows.specs.FirstIndex.{first_index}
 use Rattle.service_rows.proofs.IndexLaws.{first_is, first_none}
-use Rattle.block_services.specs.Gaps.{block_in_way, first_gap, is_gap, is_in_way, page_address}
-use Rattle.block_services.specs.Rows.{gap_address, new_base}
+use Rattle.block_services.specs.{Gaps.{block_in_way, first_gap, is_gap, is_in_way, page_address}, Rows.{gap_address, new_base}}
 use Rattle.block_services.proofs.HandleLaws.{handle_within}
 
 -- the pages lie in the block region, and no block but that of one handle has any of them

@@ -1,36 +1,24 @@
 -- A service leads from a sound world to a sound one.
 use Rattle.std.proofs.Common.{◌≡◌, ◌≢◌, ◌∙◌, ◌≤◌, ◌<◌, ◌+◌, ◌-◌, ◌%◌, ℕ, zero, suc, Bool, true, false, List, [], ◌∷◌, length, slice_set}
 use Rattle.std.proofs.Common.{length-set, refl, arith, Option, None, Some, nat_eq, get_or-set_same, get_or-set_other}
+use Rattle.std.proofs.{lemmas.Bool.{eqb-false, ltb-false}, lemmas.List.{get_or_past, set_past}}
 use Rattle.std.specs.Option.{is_none}
-use Rattle.std.proofs.lemmas.Bool.{eqb-false, ltb-false}
-use Rattle.std.proofs.lemmas.List.{get_or_past, set_past}
-use Rattle.client_world.specs.declared.limits.TheConstants.{MAX_BLOCKS}
-use Rattle.client_world.specs.declared.registers.Mode.TheVariants.{Protected}
-use Rattle.client_world.specs.Services.{es_di}
-use Rattle.client_world.specs.Soundness.{IsSound, pages_of_block}
-use Rattle.client_world.specs.World.{World, MemoryBlock, block_at}
+use Rattle.client_world.specs.{declared.limits.TheConstants.{MAX_BLOCKS}, declared.registers.Mode.TheVariants.{Protected}, Services.{es_di}}
+use Rattle.client_world.specs.{Soundness.{IsSound, pages_of_block}, World.{World, MemoryBlock, block_at}}
 use Rattle.client_world.proofs.SoundWrites.{IsSound-regs}
-use Rattle.guest_ram.specs.Bytes.{AreBytes, dword_bytes, put}
-use Rattle.guest_ram.specs.Listed.{copies}
-use Rattle.guest_ram.proofs.ListedLaws.{at_copies, length-copies}
-use Rattle.guest_space.proofs.SoundLists.{IsSound-vectors}
+use Rattle.guest_ram.specs.{Bytes.{AreBytes, dword_bytes, put}, Listed.{copies}}
+use Rattle.guest_ram.proofs.{ListedLaws.{at_copies, length-copies}, ByteLists.{bytes_dword}}
+use Rattle.guest_space.proofs.{SoundLists.{IsSound-vectors}, FarPuts.{sound_far_put}}
 use Rattle.block_memory.proofs.SizedSound.{sound_blocks}
 use Rattle.service_rows.specs.Reasons.{Service, first_reason, unsupported}
-use Rattle.service_rows.proofs.AnswerLaws.{no_reason, of_answer, sound_ax}
-use Rattle.guest_space.proofs.FarPuts.{sound_far_put}
-use Rattle.service_rows.proofs.IndexLaws.{first_is}
-use Rattle.service_rows.proofs.WidthLaws.{protected_width}
-use Rattle.block_services.specs.Free.{free_numbers, free_table, largest_new_block, with_dwords}
-use Rattle.block_services.specs.Gaps.{first_gap, lowest_handle}
-use Rattle.block_services.specs.Pages.{with_pages}
-use Rattle.block_services.specs.Rows.{allocate_block, mark_pageable, block_function, asked_pages, bx_cx, discard_pages, first_page}
-use Rattle.block_services.specs.Rows.{relock_pages, free_block, free_memory_information, free_pages, lock_pages, with_new_block}
-use Rattle.block_services.specs.Rows.{mark_paging_candidates, new_base, page_count, page_size, resize_block, with_resized_block}
-use Rattle.block_services.specs.Rows.{block_service, si_di, unlock_pages, with_blocks}
-use Rattle.block_services.proofs.EachService.{of_each_service}
-use Rattle.block_services.proofs.GoodBlocks.{Good, changed_good, freed_good, made_good, resized_good}
-use Rattle.block_services.proofs.HandleLaws.{handle_within}
-use Rattle.block_services.proofs.RoomLaws.{can_make, can_size, first_gap_is}
+use Rattle.service_rows.proofs.{AnswerLaws.{no_reason, of_answer, sound_ax}, IndexLaws.{first_is}, WidthLaws.{protected_width}}
+use Rattle.block_services.specs.{Free.{free_numbers, free_table, largest_new_block, with_dwords}, Gaps.{first_gap, lowest_handle}}
+use Rattle.block_services.specs.{Pages.{with_pages}, Rows.{allocate_block, mark_pageable, block_function, asked_pages, bx_cx}}
+use Rattle.block_services.specs.Rows.{discard_pages, first_page, relock_pages, free_block, free_memory_information, free_pages, lock_pages}
+use Rattle.block_services.specs.Rows.{with_new_block, mark_paging_candidates, new_base, page_count, page_size, resize_block}
+use Rattle.block_services.specs.Rows.{with_resized_block, block_service, si_di, unlock_pages, with_blocks}
+use Rattle.block_services.proofs.{EachService.{of_each_service}, GoodBlocks.{Good, changed_good, freed_good, made_good, resized_good}}
+use Rattle.block_services.proofs.{HandleLaws.{handle_within}, RoomLaws.{can_make, can_size, first_gap_is}}
 
 sound_general : (w : World) (b c s d : ℕ) → IsSound w → IsSound (record w { regs = record w.regs { ebx = b; ecx = c; esi = s; edi = d } })
 sound_general w b c i d s = IsSound-regs w (record w.regs { ebx = b; ecx = c; esi = i; edi = d }) s (assumption)
@@ -44,16 +32,6 @@ sound_good w blocks s width g = sound_blocks w blocks s width g.sound g.fits
 
 -- the table of what is free is bytes
 
-no_bytes : AreBytes []
-no_bytes at = omega arith
-
-more : (b : ℕ) (bs : List ℕ) → b < 0x100 → AreBytes bs → AreBytes (b ∷ bs)
-more b bs small rest zero = small
-more b bs small rest (suc at) = rest at
-
-dword_small : (v : ℕ) → v < 0x100000000 → AreBytes (dword_bytes v)
-dword_small v small = grind (arith, more, no_bytes)
-
 set_small : (bytes : List ℕ) (at v : ℕ) → AreBytes bytes → v < 0x100 → AreBytes (slice_set bytes at v)
 set_small bytes at v small less k = grind (arith, get_or-set_other, get_or-set_same, set_past)
 
@@ -66,7 +44,7 @@ dwords_small : (bytes : List ℕ) (at : ℕ) (vs : List ℕ) → AreBytes bytes 
 dwords_small bytes at [] small = small
 dwords_small bytes at (v ∷ vs) small =
     dwords_small (put bytes at (dword_bytes (v % 0x100000000))) (at + 4) vs
-    (put_small bytes at (dword_bytes (v % 0x100000000)) small (dword_small (v % 0x100000000) (omega arith)))
+    (put_small bytes at (dword_bytes (v % 0x100000000)) small (bytes_dword (v % 0x100000000) (omega arith)))
 
 copies_small : (n : ℕ) → AreBytes (copies n 0xFF)
 copies_small n k = grind (arith, at_copies, get_or_past, length-copies)

@@ -1,28 +1,21 @@
 -- The search through the blocks' pages in the order of their addresses finds the first gap, and the widest.
-use Rattle.std.proofs.Common.{◌≡◌, ◌≢◌, ◌≤◌, ◌<◌, ◌+◌, ◌-◌, ◌*◌, ◌⊎◌, ℕ, zero, suc, true, false, not, inl, inr, max, refl, sym, ◌∙◌}
-use Rattle.std.proofs.Common.{ap}
+use Rattle.std.proofs.Common.{◌≡◌, ◌≢◌, ◌≤◌, ◌<◌, ◌+◌, ◌-◌, ◌*◌, ◌⊎◌, ℕ, zero, suc, true, false, not, inl, inr, max, refl, sym, ◌∙◌, ap}
 use Rattle.std.proofs.Common.{List, [], ◌∷◌, length, get_or, drop, drop-cons, subst, arith, Option, None, Some, nat_eq, nat_le}
-use Rattle.std.proofs.Common.{if◌then◌else◌}
-use Rattle.std.proofs.lemmas.Bool.{and_from, and_left, and_right, cases_Bool, leb-true, leb-false, le-leb, lt-leb, le-ltb, lt-ltb, ne_eqb}
-use Rattle.std.proofs.lemmas.Bool.{true≢false}
-use Rattle.std.proofs.lemmas.List.Elements.{All-head, All-tail, Contains-append_cases}
+use Rattle.std.proofs.{Common.{if◌then◌else◌}, lemmas.Bool.{and_from, and_left, and_right, cases_Bool, leb-true, leb-false, le-leb, lt-leb}}
+use Rattle.std.proofs.{lemmas.Bool.{le-ltb, lt-ltb, ne_eqb, true≢false}, lemmas.List.Elements.{All-head, All-tail, Contains-append_cases}}
 use Rattle.std.proofs.lemmas.List.Sorted.{All-permutation, Contains-permutation, IsNonDecreasingBy-drop}
-use Rattle.std.specs.List.{All, Contains}
-use Rattle.std.specs.List.Sorted.{IsNonDecreasingBy, IsPermutation}
-use Rattle.client_world.specs.declared.blocks.BlockRow.{BlockRow}
-use Rattle.client_world.specs.declared.host_frames.TheConstants.{PAGE_SIZE}
-use Rattle.client_world.specs.declared.limits.TheConstants.{MAX_BLOCKS}
-use Rattle.client_world.specs.declared.memory_map.TheConstants.{BLOCK_REGION_END, BLOCK_REGION_PAGES}
-use Rattle.client_world.specs.Soundness.{SoundBlocks}
-use Rattle.client_world.specs.World.{MemoryBlock, block_at}
+use Rattle.std.specs.{List.{All, Contains}, List.Sorted.{IsNonDecreasingBy, IsPermutation}}
+use Rattle.client_world.specs.{declared.blocks.BlockRow.{BlockRow}, declared.host_frames.TheConstants.{PAGE_SIZE}}
+use Rattle.client_world.specs.{declared.limits.TheConstants.{MAX_BLOCKS}, declared.memory_map.TheConstants.{BLOCK_REGION_END}}
+use Rattle.client_world.specs.{declared.memory_map.TheConstants.{BLOCK_REGION_PAGES}, Soundness.{SoundBlocks}, World.{MemoryBlock}}
+use Rattle.client_world.specs.World.{block_at}
 use Rattle.block_memory.specs.BlockSizes.{row_seen}
 use Rattle.service_rows.specs.FirstIndex.{first_index}
 use Rattle.service_rows.proofs.IndexLaws.{first_none, index_skipped, is_missing}
-use Rattle.block_services.specs.declared.spans.Span.{Span}
-use Rattle.block_services.specs.Gaps.{block_in_way, first_gap, is_gap, is_in_way, overlaps, page_address}
+use Rattle.block_services.specs.{declared.spans.Span.{Span}, Gaps.{block_in_way, first_gap, is_gap, is_in_way, overlaps, page_address}}
 use Rattle.block_services.specs.Spans.{held_spans, span_of}
-use Rattle.block_services.proofs.GapLaws.{gap_at, gap_found, gap_here, gap_missed, not_none}
-use Rattle.block_services.proofs.SpanLists.{IsSpan, Lies, are_spans, has_span, lies}
+use Rattle.block_services.proofs.{GapLaws.{gap_at, gap_found, gap_here, gap_missed, not_none}, SpanLists.{IsSpan, Lies, are_spans}}
+use Rattle.block_services.proofs.SpanLists.{has_span, lies}
 
 -- ---- the search as a function: the first page, from one on, from which n pages lie before the next block or the region's end
 

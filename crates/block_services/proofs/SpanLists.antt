@@ -1,21 +1,15 @@
 -- The list of the held blocks' pages: each is a block's, and each block's are in it.
-use Rattle.std.proofs.Common.{◌≡◌, ◌≤◌, ◌+◌, ◌*◌, ◌%◌, ◌++◌, ℕ, zero, suc, inl, inr, List, [], length, length-append, refl, sym}
-use Rattle.std.proofs.Common.{ap}
-use Rattle.std.proofs.Common.{subst, arith, Option, None, Some}
-use Rattle.std.proofs.lemmas.Bool.{cases_eq}
-use Rattle.std.proofs.lemmas.List.Elements.{All-append, All-cons, All-nil, Contains-append_left, Contains-append_right}
+use Rattle.std.proofs.Common.{◌≡◌, ◌≤◌, ◌+◌, ◌*◌, ◌%◌, ◌++◌, ℕ, zero, suc, inl, inr, List, [], length, length-append, refl, sym, ap, subst}
+use Rattle.std.proofs.{Common.{arith, Option, None, Some}, lemmas.Bool.{cases_eq}, lemmas.List.Elements.{All-append, All-cons, All-nil}}
+use Rattle.std.proofs.lemmas.List.Elements.{Contains-append_left, Contains-append_right}
 use Rattle.std.specs.List.{All, Contains}
-use Rattle.client_world.specs.declared.blocks.BlockRow.{BlockRow}
-use Rattle.client_world.specs.declared.host_frames.TheConstants.{PAGE_SIZE}
-use Rattle.client_world.specs.declared.limits.TheConstants.{MAX_BLOCKS}
-use Rattle.client_world.specs.declared.memory_map.TheConstants.{BLOCK_REGION, BLOCK_REGION_PAGES}
-use Rattle.client_world.specs.Soundness.{SoundBlocks}
-use Rattle.client_world.specs.World.{MemoryBlock, block_at}
+use Rattle.client_world.specs.{declared.blocks.BlockRow.{BlockRow}, declared.host_frames.TheConstants.{PAGE_SIZE}}
+use Rattle.client_world.specs.{declared.limits.TheConstants.{MAX_BLOCKS}, declared.memory_map.TheConstants.{BLOCK_REGION}}
+use Rattle.client_world.specs.{declared.memory_map.TheConstants.{BLOCK_REGION_PAGES}, Soundness.{SoundBlocks}, World.{MemoryBlock}}
+use Rattle.client_world.specs.World.{block_at}
 use Rattle.block_memory.specs.BlockSizes.{row_seen}
-use Rattle.block_services.specs.declared.spans.Span.{Span}
-use Rattle.block_services.specs.Spans.{held_spans, span_of, spans_of_row}
-use Rattle.block_services.proofs.GapLaws.{row_fits}
-use Rattle.block_services.proofs.HandleLaws.{IsHandle, handle_within}
+use Rattle.block_services.specs.{declared.spans.Span.{Span}, Spans.{held_spans, span_of, spans_of_row}}
+use Rattle.block_services.proofs.{GapLaws.{row_fits}, HandleLaws.{IsHandle, handle_within}}
 
 one_span : (o : Option BlockRow) → length (spans_of_row o) ≤ 1
 one_span None = omega arith

@@ -1,18 +1,15 @@
 -- A block that shrinks stays where it is, and the table of function 0500h has the largest run.
 use Rattle.std.proofs.Common.{◌≡◌, ◌≢◌, ◌≤◌, ◌+◌, ◌*◌, inl, inr, ℕ, zero, suc, true, false, List, length, refl, ap, arith, Option, None}
-use Rattle.std.proofs.Common.{Some, nat_eq}
+use Rattle.std.proofs.{Common.{Some, nat_eq}, lemmas.Bool.{and_from, and_left, and_right, cases_Bool, cases_eq, eq-eqb, le-leb, le-ltb}}
+use Rattle.std.proofs.lemmas.Bool.{not_from_true}
 use Rattle.std.specs.Option.{is_none, is_some}
-use Rattle.std.proofs.lemmas.Bool.{and_from, and_left, and_right, cases_Bool, cases_eq, eq-eqb, le-leb, le-ltb, not_from_true}
-use Rattle.client_world.specs.declared.host_frames.TheConstants.{PAGE_SIZE}
-use Rattle.client_world.specs.declared.limits.TheConstants.{MAX_BLOCKS}
-use Rattle.client_world.specs.declared.memory_map.TheConstants.{BLOCK_REGION_END}
-use Rattle.client_world.specs.Soundness.{IsSound, SoundBlocks}
-use Rattle.client_world.specs.World.{World, MemoryBlock, block_at, base_of_block}
+use Rattle.client_world.specs.{declared.host_frames.TheConstants.{PAGE_SIZE}, declared.limits.TheConstants.{MAX_BLOCKS}}
+use Rattle.client_world.specs.{declared.memory_map.TheConstants.{BLOCK_REGION_END}, Soundness.{IsSound, SoundBlocks}, World.{World}}
+use Rattle.client_world.specs.World.{MemoryBlock, block_at, base_of_block}
 use Rattle.block_memory.specs.BlockSizes.{row_seen}
 use Rattle.service_rows.proofs.IndexLaws.{is_missing}
-use Rattle.block_services.specs.Free.{IsLargest, largest_new_block}
-use Rattle.block_services.specs.Gaps.{block_in_way, is_gap, is_in_way, overlaps}
-use Rattle.block_services.specs.Rows.{new_base}
+use Rattle.block_services.specs.{Free.{IsLargest, largest_new_block}, Gaps.{block_in_way, is_gap, is_in_way, overlaps}, Rows.{new_base}}
+use Rattle.block_services.proofs.ViewLaws.{none_of}
 
 beside : (blocks : List (Option MemoryBlock)) (budget handle pages other : ℕ) (own : MemoryBlock) → SoundBlocks blocks budget →
     block_at blocks handle ≡ Some own →
@@ -52,10 +49,6 @@ stays w handle pages own s there few =
 
 -- the largest run
 
-none_is : (o : Option ℕ) → is_some o ≡ false → o ≡ None
-none_is None e = refl
-none_is (Some x) e = absurd cc
-
 some_is : (o : Option ℕ) → is_some o ≡ true → o ≢ None
 some_is None e same = absurd cc
 some_is (Some x) e same = absurd cc
@@ -63,7 +56,7 @@ some_is (Some x) e same = absurd cc
 largest_more : (blocks : List (Option MemoryBlock)) (n : ℕ) → IsLargest blocks n (largest_new_block blocks n) →
     IsLargest blocks (suc n) (largest_new_block blocks (suc n))
 unfolding largest_new_block
-largest_more blocks n rest = grind (arith, cases_Bool, none_is, some_is)
+largest_more blocks n rest = grind (arith, cases_Bool, none_of, some_is)
 
 largest_none : (blocks : List (Option MemoryBlock)) → IsLargest blocks 0 (largest_new_block blocks 0)
 unfolding largest_new_block

@@ -1,16 +1,14 @@
 -- Pages of which none is after the view of the DOS megabyte.
-use Rattle.std.proofs.Common.{◌≡◌, ◌≤◌, ◌<◌, ◌+◌, ℕ, false, Option, None, Some, refl, nat_le}
+use Rattle.std.proofs.{Common.{◌≡◌, ◌≤◌, ◌<◌, ◌+◌, ℕ, false, Option, None, Some, refl, nat_le}, lemmas.Bool.{leb-false, not-false}}
+use Rattle.std.proofs.lemmas.Bool.{not-true}
 use Rattle.std.specs.Option.{is_some}
-use Rattle.std.proofs.lemmas.Bool.{leb-false, not-false, not-true}
-use Rattle.client_world.specs.declared.memory_map.TheConstants.{DOS_VIEW_PAGES}
-use Rattle.client_world.specs.World.{World}
+use Rattle.client_world.specs.{declared.memory_map.TheConstants.{DOS_VIEW_PAGES}, World.{World}}
 use Rattle.service_rows.specs.FirstIndex.{first_index}
 use Rattle.service_rows.proofs.IndexLaws.{first_none}
-use Rattle.block_services.specs.declared.regions.Question.{Question}
-use Rattle.block_services.specs.declared.regions.Question.TheVariants.{IsAboveView}
+use Rattle.block_services.specs.{declared.regions.Question.{Question}, declared.regions.Question.TheVariants.{IsAboveView}}
 use Rattle.block_services.specs.Pages.{page_answer, is_in_view, some_page}
 
-none_of : (o : Option ℕ) → is_some o ≡ false → o ≡ None
+pub none_of : (o : Option ℕ) → is_some o ≡ false → o ≡ None
 none_of None e = refl
 none_of (Some x) e = absurd cc
 

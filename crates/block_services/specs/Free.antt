@@ -1,12 +1,9 @@
 -- What is free: the table of function 0500h. Source: DPMI 0.9, INT 31h function 0500h; the numbers are own.
 use Rattle.std.specs.Prelude.{◌≡◌, ◌≢◌, ◌≤◌, ◌<◌, ℕ, zero, suc, ◌+◌, ◌-◌, ◌*◌, ◌%◌, is_some, if◌then◌else◌, List, [], ◌∷◌, None}
 use Rattle.std.specs.declared.option.Option.{Option}
-use Rattle.client_world.specs.declared.host_frames.TheConstants.{PAGE_SIZE}
-use Rattle.client_world.specs.declared.memory_map.TheConstants.{BLOCK_REGION_PAGES}
-use Rattle.client_world.specs.Soundness.{pages_of_blocks}
-use Rattle.client_world.specs.World.{World, MemoryBlock}
-use Rattle.guest_ram.specs.Bytes.{dword_bytes, put}
-use Rattle.guest_ram.specs.Listed.{copies}
+use Rattle.client_world.specs.{declared.host_frames.TheConstants.{PAGE_SIZE}, declared.memory_map.TheConstants.{BLOCK_REGION_PAGES}}
+use Rattle.client_world.specs.{Soundness.{pages_of_blocks}, World.{World, MemoryBlock}}
+use Rattle.guest_ram.specs.{Bytes.{dword_bytes, put}, Listed.{copies}}
 use Rattle.block_memory.specs.BlockSizes.{locked_pages}
 use Rattle.block_services.specs.Gaps.{first_gap}
 

@@ -1,11 +1,9 @@
 -- Pages of the block region that no memory block has, and handles that none has. Source: own.
 use Rattle.std.specs.Prelude.{ℕ, ◌+◌, ◌*◌, Bool, false, ◌&&◌, not, nat_eq, nat_lt, nat_le, is_none, List, None, Some}
 use Rattle.std.specs.declared.option.Option.{Option}
-use Rattle.client_world.specs.declared.blocks.BlockRow.{BlockRow}
-use Rattle.client_world.specs.declared.host_frames.TheConstants.{PAGE_SIZE}
-use Rattle.client_world.specs.declared.limits.TheConstants.{MAX_BLOCKS}
-use Rattle.client_world.specs.declared.memory_map.TheConstants.{BLOCK_REGION, BLOCK_REGION_END, BLOCK_REGION_PAGES}
-use Rattle.client_world.specs.World.{MemoryBlock, block_at}
+use Rattle.client_world.specs.{declared.blocks.BlockRow.{BlockRow}, declared.host_frames.TheConstants.{PAGE_SIZE}}
+use Rattle.client_world.specs.{declared.limits.TheConstants.{MAX_BLOCKS}, declared.memory_map.TheConstants.{BLOCK_REGION, BLOCK_REGION_END}}
+use Rattle.client_world.specs.{declared.memory_map.TheConstants.{BLOCK_REGION_PAGES}, World.{MemoryBlock, block_at}}
 use Rattle.block_memory.specs.BlockSizes.{row_seen}
 use Rattle.service_rows.specs.FirstIndex.{first_index}
 

@@ -1,22 +1,15 @@
 -- The pages that a run of bytes touches, the questions asked of them, and the changes made to them. Source: own.
 use Rattle.std.specs.Prelude.{ℕ, zero, suc, ◌+◌, ◌-◌, ◌*◌, ◌/◌, Bool, true, false, ◌&&◌, not, nat_eq, nat_le, min, is_some, if◌then◌else◌}
-use Rattle.std.specs.Prelude.{List, slice_set}
-use Rattle.std.specs.declared.option.Option.{Option}
-use Rattle.client_world.specs.declared.host_frames.TheConstants.{PAGE_SIZE}
-use Rattle.client_world.specs.declared.limits.TheConstants.{GREATEST_LOCK_COUNT}
-use Rattle.client_world.specs.declared.memory_map.TheConstants.{DOS_VIEW_PAGES}
-use Rattle.client_world.specs.declared.place.Place.{Place}
-use Rattle.client_world.specs.declared.place.Place.TheVariants.{Dos, Block, Host, Nothing}
-use Rattle.client_world.specs.Access.{place_in}
-use Rattle.client_world.specs.World.{World, MemoryBlock}
+use Rattle.std.specs.{Prelude.{List, slice_set}, declared.option.Option.{Option}}
+use Rattle.client_world.specs.{declared.host_frames.TheConstants.{PAGE_SIZE}, declared.limits.TheConstants.{GREATEST_LOCK_COUNT}}
+use Rattle.client_world.specs.{declared.memory_map.TheConstants.{DOS_VIEW_PAGES}, declared.place.Place.{Place}}
+use Rattle.client_world.specs.{declared.place.Place.TheVariants.{Dos, Block, Host, Nothing}, Access.{place_in}, World.{World, MemoryBlock}}
 use Rattle.guest_space.specs.VectorLists.{is_pageable}
 use Rattle.block_memory.specs.BlockSizes.{lock_in, with_lock, blocks_with_zero_page}
 use Rattle.service_rows.specs.FirstIndex.{first_index}
-use Rattle.block_services.specs.declared.regions.Question.{Question}
-use Rattle.block_services.specs.declared.regions.Question.TheVariants.{IsOutside, IsNoBlock, IsLockedMost, IsUnlocked, IsAboveView}
-use Rattle.block_services.specs.declared.regions.Question.TheVariants.{IsPageable, IsRelocked}
-use Rattle.block_services.specs.declared.regions.Change.{Change}
-use Rattle.block_services.specs.declared.regions.Change.TheVariants.{Lock, Unlock, Discard}
+use Rattle.block_services.specs.{declared.regions.Question.{Question}, declared.regions.Question.TheVariants.{IsOutside, IsNoBlock}}
+use Rattle.block_services.specs.declared.regions.Question.TheVariants.{IsLockedMost, IsUnlocked, IsAboveView, IsPageable, IsRelocked}
+use Rattle.block_services.specs.{declared.regions.Change.{Change}, declared.regions.Change.TheVariants.{Lock, Unlock, Discard}}
 
 -- the number of pages that a run of bytes touches, given its first byte and its size
 abbrev pub touched_pages : ℕ → ℕ → ℕ

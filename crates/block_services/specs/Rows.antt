@@ -1,26 +1,20 @@
 -- The services of INT 31h on memory blocks and their pages. Source: DPMI 0.9, INT 31h functions 0500h to 0503h, 0600h to 0604h, 0702h and
 -- 0703h; the handles, the addresses and the reasons of refusal are own.
-use Rattle.std.specs.Prelude.{ℕ, ◌-◌, ◌/◌, ◌%◌, Bool, true, false, [], ◌∷◌, List, None, Some, is_none, nat_eq, nat_lt, not}
-use Rattle.std.specs.Prelude.{if◌then◌else◌}
+use Rattle.std.specs.Prelude.{ℕ, ◌-◌, ◌/◌, ◌%◌, Bool, true, false, [], ◌∷◌, List, None, Some, is_none, nat_eq, nat_lt, not, if◌then◌else◌}
 use Rattle.std.specs.declared.option.Option.{Option}
-use Rattle.client_world.specs.declared.host_frames.TheConstants.{PAGE_SIZE}
-use Rattle.client_world.specs.Access.{is_reachable}
-use Rattle.client_world.specs.Registers.{low_half, with_low_half}
-use Rattle.client_world.specs.Services.{Served, bx, cx, es_di, two_words}
-use Rattle.client_world.specs.Soundness.{pages_of_block, pages_of_blocks}
-use Rattle.client_world.specs.World.{World, MemoryBlock, block_at, with_block_at, base_of_block}
+use Rattle.client_world.specs.{declared.host_frames.TheConstants.{PAGE_SIZE}, Access.{is_reachable}, Registers.{low_half, with_low_half}}
+use Rattle.client_world.specs.{Services.{Served, bx, cx, es_di, two_words}, Soundness.{pages_of_block, pages_of_blocks}, World.{World}}
+use Rattle.client_world.specs.World.{MemoryBlock, block_at, with_block_at, base_of_block}
 use Rattle.block_memory.specs.BlockSizes.{fresh_block, sized_block}
 use Rattle.service_rows.specs.declared.refusal.Refusal.TheVariants.{InvalidAddress, InvalidValue, InvalidHandle, PhysicalMemoryUnavailable}
-use Rattle.service_rows.specs.declared.refusal.Refusal.TheVariants.{LinearMemoryUnavailable, HandleUnavailable}
+use Rattle.service_rows.specs.{declared.refusal.Refusal.TheVariants.{LinearMemoryUnavailable, HandleUnavailable}, Reasons.{Service}}
+use Rattle.service_rows.specs.Reasons.{family_outcome, unsupported}
 use Rattle.guest_space.specs.Far.{world_after_far_write}
-use Rattle.service_rows.specs.Reasons.{Service, family_outcome, unsupported}
-use Rattle.block_services.specs.declared.regions.Change.TheVariants.{Lock, Unlock, Discard}
-use Rattle.block_services.specs.declared.regions.Question.{Question}
+use Rattle.block_services.specs.{declared.regions.Change.TheVariants.{Lock, Unlock, Discard}, declared.regions.Question.{Question}}
 use Rattle.block_services.specs.declared.regions.Question.TheVariants.{IsOutside, IsNoBlock, IsLockedMost, IsUnlocked, IsAboveView}
-use Rattle.block_services.specs.declared.regions.Question.TheVariants.{IsPageable, IsRelocked}
-use Rattle.block_services.specs.Free.{free_table, largest_new_block}
-use Rattle.block_services.specs.Gaps.{first_gap, is_gap, lowest_handle, page_address}
-use Rattle.block_services.specs.Pages.{changed, pages_rounded_up, some_page, touched_pages, whole_pages, with_pages}
+use Rattle.block_services.specs.{declared.regions.Question.TheVariants.{IsPageable, IsRelocked}, Free.{free_table, largest_new_block}}
+use Rattle.block_services.specs.{Gaps.{first_gap, is_gap, lowest_handle, page_address}, Pages.{changed, pages_rounded_up, some_page}}
+use Rattle.block_services.specs.Pages.{touched_pages, whole_pages, with_pages}
 
 -- 16-bit registers
 abbrev pub si : World → ℕ

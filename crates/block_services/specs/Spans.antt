@@ -1,10 +1,7 @@
 -- The pages of the memory blocks, counted from the start of the block region. Source: own.
-use Rattle.std.specs.Prelude.{ℕ, zero, suc, ◌+◌, ◌-◌, ◌/◌, List, [], ◌∷◌, ◌++◌, None, Some}
-use Rattle.std.specs.declared.option.Option.{Option}
-use Rattle.client_world.specs.declared.blocks.BlockRow.{BlockRow}
-use Rattle.client_world.specs.declared.host_frames.TheConstants.{PAGE_SIZE}
-use Rattle.client_world.specs.declared.memory_map.TheConstants.{BLOCK_REGION}
-use Rattle.client_world.specs.World.{MemoryBlock, block_at}
+use Rattle.std.specs.{Prelude.{ℕ, zero, suc, ◌+◌, ◌-◌, ◌/◌, List, [], ◌∷◌, ◌++◌, None, Some}, declared.option.Option.{Option}}
+use Rattle.client_world.specs.{declared.blocks.BlockRow.{BlockRow}, declared.host_frames.TheConstants.{PAGE_SIZE}}
+use Rattle.client_world.specs.{declared.memory_map.TheConstants.{BLOCK_REGION}, World.{MemoryBlock, block_at}}
 use Rattle.block_memory.specs.BlockSizes.{row_seen}
 use Rattle.block_services.specs.declared.spans.Span.{Span}
 

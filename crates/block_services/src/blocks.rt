@@ -1,13 +1,10 @@
 // Memory blocks made, freed and given another size.
 ghost use Rattle.std.specs.Prelude.{◌≡◌, ◌≢◌, ◌≤◌, ◌<◌, ◌+◌, ◌*◌, ◌^◌, MatchResult, None, Some};
-ghost use Rattle.client_world.specs.declared.host_frames.TheConstants.{PAGE_SIZE};
-ghost use Rattle.client_world.specs.declared.limits.TheConstants.{MAX_PAGES};
-ghost use Rattle.client_world.specs.declared.memory_map.TheConstants.{BLOCK_REGION_PAGES};
-ghost use Rattle.client_world.specs.World.{block_at, base_of_block};
-ghost use Rattle.service_rows.specs.declared.refusal.Refusal.TheVariants.{LinearMemoryUnavailable as no_gap};
-ghost use Rattle.service_rows.specs.Reasons.{Does};
-ghost use Rattle.block_services.specs.Rows.{allocate_block, with_block_outputs, free_block, free_pages, si_di, new_base};
-ghost use Rattle.block_services.specs.Rows.{resize_block, bx_cx};
+ghost use Rattle.client_world.specs.{declared.host_frames.TheConstants.{PAGE_SIZE}, declared.limits.TheConstants.{MAX_PAGES}};
+ghost use Rattle.client_world.specs.{declared.memory_map.TheConstants.{BLOCK_REGION_PAGES}, World.{block_at, base_of_block}};
+ghost use Rattle.service_rows.specs.{declared.refusal.Refusal.TheVariants.{LinearMemoryUnavailable as no_gap}, Reasons.{Does}};
+ghost use Rattle.block_services.specs.Rows.{allocate_block, with_block_outputs, free_block, free_pages, si_di, new_base, resize_block};
+ghost use Rattle.block_services.specs.Rows.{bx_cx};
 
 use crate::gaps::{first_gap, is_gap, lowest_handle, page_address, row_of};
 use crate::regions::pages_rounded_up;

@@ -3,8 +3,7 @@ ghost use Rattle.std.specs.Prelude.{◌≡◌, ◌≤◌, ◌+◌, ◌%◌};
 ghost use Rattle.client_world.specs.declared.limits.TheConstants.{MAX_PAGES};
 ghost use Rattle.guest_ram.specs.Bytes.{dword_bytes, put};
 ghost use Rattle.service_rows.specs.Reasons.{Does};
-ghost use Rattle.block_services.specs.Free.{free_table, largest_new_block};
-ghost use Rattle.block_services.specs.Rows.{free_memory_information};
+ghost use Rattle.block_services.specs.{Free.{free_table, largest_new_block}, Rows.{free_memory_information}};
 
 use crate::blocks::free_pages;
 use crate::gaps::widest_gap;

@@ -1,15 +1,13 @@
 // Pages of the block region that no memory block has, and handles that none has.
 ghost use Rattle.std.specs.Prelude.{◌≡◌, ◌≤◌, ◌<◌, ◌+◌, ◌*◌, ◌%◌, ◌^◌, ℕ, min, IfSome, MatchResult, None, Some};
-ghost use Rattle.client_world.specs.declared.host_frames.TheConstants.{PAGE_SIZE};
-ghost use Rattle.client_world.specs.declared.limits.TheConstants.{MAX_BLOCKS, MAX_PAGES};
+ghost use Rattle.client_world.specs.{declared.host_frames.TheConstants.{PAGE_SIZE}, declared.limits.TheConstants.{MAX_BLOCKS, MAX_PAGES}};
 ghost use Rattle.client_world.specs.declared.memory_map.TheConstants.{BLOCK_REGION, BLOCK_REGION_END, BLOCK_REGION_PAGES};
-ghost use Rattle.client_world.specs.Soundness.{pages_of_block};
-ghost use Rattle.client_world.specs.World.{block_at, base_of_block};
+ghost use Rattle.client_world.specs.{Soundness.{pages_of_block}, World.{block_at, base_of_block}};
 ghost use Rattle.block_memory.specs.BlockSizes.{row_seen};
 ghost use Rattle.service_rows.specs.declared.refusal.Refusal.TheVariants.{LinearMemoryUnavailable as no_gap};
 ghost use Rattle.service_rows.specs.declared.refusal.Refusal.TheVariants.{HandleUnavailable as no_handle};
-ghost use Rattle.block_services.specs.Free.{largest_new_block};
-ghost use Rattle.block_services.specs.Gaps.{block_in_way, first_gap, is_gap, is_in_way, lowest_handle, overlaps, page_address};
+ghost use Rattle.block_services.specs.{Free.{largest_new_block}, Gaps.{block_in_way, first_gap, is_gap, is_in_way, lowest_handle}};
+ghost use Rattle.block_services.specs.Gaps.{overlaps, page_address};
 
 use crate::spans::spans_by_address;
 use client_world::BlockRow;
@@ -57,7 +55,7 @@ fn is_in_way(m: &Machine, own: u32, base: u32, pages: u32, handle: u32) -> bool
 }
 
 /// The lowest handle of such a block.
-pub(crate) fn block_in_way(m: &Machine, own: u32, base: u32, pages: u32) -> Option<u32>
+fn block_in_way(m: &Machine, own: u32, base: u32, pages: u32) -> Option<u32>
     requires run { base + PAGE_SIZE * pages < 2 ^ 32 }
     ensures { result ≡ block_in_way m.now.world.blocks own base pages }
 {

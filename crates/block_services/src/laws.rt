@@ -1,10 +1,8 @@
 // Laws of all services. The contract of each function is the law; the function does nothing.
 ghost use Rattle.std.specs.Prelude.{ℕ, ◌≡◌, ◌≤◌, Some, length};
-ghost use Rattle.client_world.specs.declared.registers.Mode.TheVariants.{Protected as protected};
-ghost use Rattle.client_world.specs.Soundness.{IsSound};
-ghost use Rattle.client_world.specs.World.{World, MemoryBlock, block_at};
-ghost use Rattle.block_services.specs.Free.{IsLargest, largest_new_block};
-ghost use Rattle.block_services.specs.Rows.{free_pages, new_base, block_service};
+ghost use Rattle.client_world.specs.{declared.registers.Mode.TheVariants.{Protected as protected}, Soundness.{IsSound}, World.{World}};
+ghost use Rattle.client_world.specs.World.{MemoryBlock, block_at};
+ghost use Rattle.block_services.specs.{Free.{IsLargest, largest_new_block}, Rows.{free_pages, new_base, block_service}};
 
 /// A service keeps a world of protected mode sound. Source: own.
 pub fn every_block_service_is_sound()

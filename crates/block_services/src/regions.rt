@@ -1,13 +1,11 @@
 // The pages that a run of bytes touches, the questions asked of them, and the changes made to them.
-ghost use Rattle.std.specs.Prelude.{◌≡◌, ◌<◌, ◌≤◌, ◌+◌, ◌*◌, ◌^◌, ℕ};
-ghost use Rattle.std.specs.Bool.{OnTrue};
-ghost use Rattle.client_world.specs.declared.host_frames.TheConstants.{PAGE_SIZE};
-ghost use Rattle.client_world.specs.declared.memory_map.TheConstants.{BLOCK_REGION_END, DOS_VIEW_PAGES};
+ghost use Rattle.std.specs.{Prelude.{◌≡◌, ◌<◌, ◌≤◌, ◌+◌, ◌*◌, ◌^◌, ℕ}, Bool.{OnTrue}};
+ghost use Rattle.client_world.specs.{declared.host_frames.TheConstants.{PAGE_SIZE}, declared.memory_map.TheConstants.{BLOCK_REGION_END}};
+ghost use Rattle.client_world.specs.declared.memory_map.TheConstants.{DOS_VIEW_PAGES};
 ghost use Rattle.guest_space.specs.VectorLists.{is_pageable};
 ghost use Rattle.block_services.specs.Pages.{changed, changed_page, page_answer, pages_rounded_up, is_blocks, is_in_view, lock_of_page};
 ghost use Rattle.block_services.specs.Pages.{page_place, some_page, touched_pages, whole_pages, with_pages};
 
-use crate::gaps::block_in_way;
 use client_world::host_frames::PAGE_SIZE;
 use client_world::limits::GREATEST_LOCK_COUNT;
 use client_world::memory_map::{BLOCK_REGION, BLOCK_REGION_END, DOS_VIEW_PAGES};
@@ -72,19 +70,18 @@ pub(crate) fn whole_pages(start: u32, size: u32) -> u32
     (end as u32).saturating_sub(pages_rounded_up(start))
 }
 
-// Whether a page is a block's.
+// Whether a page is a block's: in the block region the client may touch no others.
 fn is_blocks(m: &Machine, page: u32) -> bool
     ensures is { result ≡ is_blocks (page_place m.now.world.blocks page) }
     ensures below { OnTrue result (PAGE_SIZE * page < BLOCK_REGION_END) }
 {
-    m.soundness();
     if page < BLOCK_REGION / PAGE_SIZE {
         return false;
     }
     if page >= BLOCK_REGION_END / PAGE_SIZE {
         return false;
     }
-    block_in_way(m, 0, PAGE_SIZE * page, 1).is_some()
+    m.may_touch(PAGE_SIZE * page, false)
 }
 
 // Whether a page belongs to the view of the DOS megabyte.

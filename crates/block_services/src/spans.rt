@@ -1,10 +1,8 @@
 // The pages of the memory blocks in the order of their addresses: a search for free pages asks each handle once, and then goes through
 // these.
-ghost use Rattle.std.specs.Prelude.{◌≡◌, ◌≤◌, ◌<◌, ◌+◌, ◌*◌, ◌++◌, IfSome, IsPermutation};
-ghost use Rattle.std.specs.List.Sorted.{IsNonDecreasingBy};
+ghost use Rattle.std.specs.{Prelude.{◌≡◌, ◌≤◌, ◌<◌, ◌+◌, ◌*◌, ◌++◌, IfSome, IsPermutation}, List.Sorted.{IsNonDecreasingBy}};
 ghost use Rattle.arrayvec.specs.ArrayVec.{array_vec_len};
-ghost use Rattle.client_world.specs.declared.host_frames.TheConstants.{PAGE_SIZE};
-ghost use Rattle.client_world.specs.declared.limits.TheConstants.{MAX_BLOCKS};
+ghost use Rattle.client_world.specs.{declared.host_frames.TheConstants.{PAGE_SIZE}, declared.limits.TheConstants.{MAX_BLOCKS}};
 ghost use Rattle.client_world.specs.declared.memory_map.TheConstants.{BLOCK_REGION_END};
 ghost use Rattle.block_services.specs.Spans.{held_spans, span_of, spans_of_row};
 

@@ -1,22 +1,15 @@
 -- A callback's frame and structure are bytes.
 use Rattle.std.proofs.Common.{◌≡◌, ℕ, ◌-◌, length, refl, Option, None, Some}
-use Rattle.client_world.specs.declared.memory_map.TheConstants.{ROM_SEGMENT, ROM_START}
-use Rattle.client_world.specs.declared.registers.Regs.{Regs}
-use Rattle.client_world.specs.declared.registers.Width.{Width}
-use Rattle.client_world.specs.declared.registers.Width.TheVariants.{Sixteen, ThirtyTwo}
-use Rattle.client_world.specs.declared.selectors.TheConstants.{HOST_CODE}
-use Rattle.client_world.specs.declared.traps.TheConstants.{CALLBACK_RETURN_TRAP}
-use Rattle.client_world.specs.Registers.{flags_image}
-use Rattle.client_world.specs.Selector.{selector_of}
-use Rattle.client_world.specs.World.{World}
+use Rattle.client_world.specs.{declared.memory_map.TheConstants.{ROM_SEGMENT, ROM_START}, declared.registers.Regs.{Regs}}
+use Rattle.client_world.specs.{declared.registers.Width.{Width}, declared.registers.Width.TheVariants.{Sixteen, ThirtyTwo}}
+use Rattle.client_world.specs.{declared.selectors.TheConstants.{HOST_CODE}, declared.traps.TheConstants.{CALLBACK_RETURN_TRAP}}
+use Rattle.client_world.specs.{Registers.{flags_image}, Selector.{selector_of}, World.{World}}
 use Rattle.exec_flow.specs.Interrupts.{item_bits}
 use Rattle.guest_ram.specs.Bytes.{AreBytes}
 use Rattle.guest_space.specs.Pending.{number_bytes}
-use Rattle.translation.specs.declared.structure.TheConstants.{STRUCTURE_SIZE}
-use Rattle.translation.specs.Structure.{index_results, other_results}
+use Rattle.translation.specs.{declared.structure.TheConstants.{STRUCTURE_SIZE}, Structure.{index_results, other_results}}
 use Rattle.translation.proofs.SoundReturns.{HasBytes, dword_has_bytes, index_bytes, join, other_bytes, word_has_bytes}
-use Rattle.callbacks.specs.Callbacks.{caller_structure, callback_frame}
-use Rattle.callbacks.specs.Services.{callback_offset}
+use Rattle.callbacks.specs.{Callbacks.{caller_structure, callback_frame}, Services.{callback_offset}}
 
 item_bytes : (width : Option Width) (v : ℕ) → HasBytes (number_bytes (item_bits width) v)
 item_bytes None v = word_has_bytes v

@@ -1,35 +1,21 @@
 -- What a callback and its return hand over.
 use Rattle.std.proofs.Common.{◌≡◌, ℕ, ◌<◌, false, List, [], ◌∷◌, ◌++◌, length, refl, ap, ◌∙◌, sym, arith, None, Ok, true, get_or-set_same}
-use Rattle.client_world.specs.declared.calls.Record.{Record}
-use Rattle.client_world.specs.declared.calls.Record.TheVariants.{Back}
-use Rattle.client_world.specs.declared.host_frames.TheConstants.{PAGE_SIZE}
-use Rattle.client_world.specs.declared.limits.TheConstants.{GREATEST_DEPTH}
-use Rattle.client_world.specs.declared.registers.Mode.TheVariants.{Real, Protected}
-use Rattle.client_world.specs.declared.registers.TheConstants.{INTERRUPT_BIT}
-use Rattle.client_world.specs.declared.segments.FarPtr.{FarPtr}
-use Rattle.client_world.specs.Access.{far_access, is_reachable}
-use Rattle.client_world.specs.Registers.{has_bit}
-use Rattle.client_world.specs.Selector.{row_at_index}
-use Rattle.client_world.specs.Services.{es_di}
-use Rattle.client_world.specs.Soundness.{IsSound}
-use Rattle.client_world.specs.World.{World, depth}
+use Rattle.client_world.specs.{declared.calls.Record.{Record}, declared.calls.Record.TheVariants.{Back}}
+use Rattle.client_world.specs.{declared.host_frames.TheConstants.{PAGE_SIZE}, declared.limits.TheConstants.{GREATEST_DEPTH}}
+use Rattle.client_world.specs.{declared.registers.Mode.TheVariants.{Real, Protected}, declared.registers.TheConstants.{INTERRUPT_BIT}}
+use Rattle.client_world.specs.{declared.segments.FarPtr.{FarPtr}, Access.{far_access, is_reachable}, Registers.{has_bit}}
+use Rattle.client_world.specs.{Selector.{row_at_index}, Services.{es_di}, Soundness.{IsSound}, World.{World, depth}}
 use Rattle.guest_space.specs.Far.{far_bytes, world_after_far_write}
-use Rattle.guest_space.proofs.FarLaws.{written_is_read}
-use Rattle.guest_space.proofs.FarPuts.{world_far_written}
-use Rattle.translation.specs.declared.structure.TheConstants.{STRUCTURE_SIZE}
-use Rattle.translation.specs.Structure.{structure_bytes, structure_flags, structure_regs}
-use Rattle.translation.proofs.Ended.{but_last}
-use Rattle.translation.proofs.PutPart.{reachable_after}
-use Rattle.translation.proofs.ResultsBack.{same_far}
+use Rattle.guest_space.proofs.{FarLaws.{written_is_read}, FarPuts.{world_far_written}}
+use Rattle.translation.specs.{declared.structure.TheConstants.{STRUCTURE_SIZE}, Structure.{structure_bytes, structure_flags}}
+use Rattle.translation.specs.Structure.{structure_regs}
+use Rattle.mode_stack.proofs.LastRecord.{but_last}
+use Rattle.translation.proofs.{PutPart.{reachable_after}, ResultsBack.{same_far}}
 use Rattle.callbacks.specs.Callbacks.{after_entering, after_leaving, caller_structure, enter_callback, callback_frame_start}
 use Rattle.callbacks.specs.Callbacks.{callback_frame_size, leave_callback, procedure_regs, callback_frame, stack_index, stack_row}
-use Rattle.callbacks.specs.Callbacks.{with_frame_and_structure, with_stack_row}
-use Rattle.callbacks.specs.HandOver.{HasEntered, HasLeft}
-use Rattle.callbacks.proofs.FrameBytes.{caller_size}
-use Rattle.callbacks.proofs.KeptWorld.{entering_calls, leaving_calls, memory_alone}
-use Rattle.callbacks.proofs.SoundEntries.{sound_frame}
-use Rattle.callbacks.proofs.SoundStackRow.{held_width, sound_with_stack_row}
-use Rattle.callbacks.proofs.Started.{is_back, is_start}
+use Rattle.callbacks.specs.{Callbacks.{with_frame_and_structure, with_stack_row}, HandOver.{HasEntered, HasLeft}}
+use Rattle.callbacks.proofs.{FrameBytes.{caller_size}, KeptWorld.{entering_calls, leaving_calls, memory_alone}, SoundEntries.{sound_frame}}
+use Rattle.callbacks.proofs.{SoundStackRow.{held_width, sound_with_stack_row}, Started.{is_back, is_start}}
 
 -- ---- the structure is read as it was written
 

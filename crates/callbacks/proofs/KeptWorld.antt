@@ -1,21 +1,15 @@
 -- What a callback and its return leave as it was, and the records after them.
 use Rattle.std.proofs.Common.{◌≡◌, ℕ, false, List, [], ◌∷◌, ◌++◌, refl, ap, ◌∙◌, sym, subst, Ok}
-use Rattle.client_world.specs.declared.calls.Record.{Record}
-use Rattle.client_world.specs.declared.calls.Record.TheVariants.{Back}
-use Rattle.client_world.specs.declared.registers.Mode.TheVariants.{Protected}
-use Rattle.client_world.specs.declared.segments.FarPtr.{FarPtr}
-use Rattle.client_world.specs.Selector.{Row}
+use Rattle.client_world.specs.{declared.calls.Record.{Record}, declared.calls.Record.TheVariants.{Back}}
+use Rattle.client_world.specs.{declared.registers.Mode.TheVariants.{Protected}, declared.segments.FarPtr.{FarPtr}, Selector.{Row}}
 use Rattle.client_world.specs.World.{World}
-use Rattle.guest_space.specs.Far.{world_after_far_write}
-use Rattle.guest_space.specs.Transfer.{HasOtherMemory}
-use Rattle.guest_space.proofs.FarPuts.{other_far_put}
-use Rattle.guest_space.proofs.MemoryAlone.{other_then}
+use Rattle.guest_space.specs.{Far.{world_after_far_write}, Transfer.{HasOtherMemory}}
+use Rattle.guest_space.proofs.{FarPuts.{other_far_put}, MemoryAlone.{other_then}}
 use Rattle.translation.specs.declared.structure.TheConstants.{STRUCTURE_SIZE}
-use Rattle.translation.proofs.Ended.{but_last}
+use Rattle.mode_stack.proofs.LastRecord.{but_last}
 use Rattle.callbacks.specs.Callbacks.{after_entering, after_leaving, caller_structure, enter_callback, callback_frame_start}
 use Rattle.callbacks.specs.Callbacks.{callback_frame_size, leave_callback, procedure_regs, callback_frame, with_frame_and_structure}
-use Rattle.callbacks.specs.Callbacks.{with_stack_row}
-use Rattle.callbacks.specs.HandOver.{IsCallbackPopped, IsCallbackPushed, LeftForProcedure, LeftForReal}
+use Rattle.callbacks.specs.{Callbacks.{with_stack_row}, HandOver.{IsCallbackPopped, IsCallbackPushed, LeftForProcedure, LeftForReal}}
 use Rattle.callbacks.proofs.Started.{is_back, is_start}
 
 -- the frame and the structure are memory

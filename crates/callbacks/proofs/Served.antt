@@ -1,20 +1,14 @@
 -- The services on callbacks: they change the callbacks and the registers alone, and the world stays sound.
 use Rattle.std.proofs.Common.{◌≡◌, ◌≢◌, ℕ, length-set, refl, ◌∙◌, Option, None, Some}
 use Rattle.std.specs.Prelude.{nat_eq, slice_set}
-use Rattle.client_world.specs.declared.registers.Mode.TheVariants.{Protected}
-use Rattle.client_world.specs.declared.registers.Regs.{Regs}
-use Rattle.client_world.specs.declared.services.Carry.TheVariants.{Set}
-use Rattle.client_world.specs.Services.{es_di}
-use Rattle.client_world.specs.Soundness.{IsSound, HasSegments}
-use Rattle.client_world.specs.World.{World}
+use Rattle.client_world.specs.{declared.registers.Mode.TheVariants.{Protected}, declared.registers.Regs.{Regs}}
+use Rattle.client_world.specs.{declared.services.Carry.TheVariants.{Set}, Services.{es_di}, Soundness.{IsSound, HasSegments}, World.{World}}
 use Rattle.client_world.proofs.SoundWrites.{IsSound-regs}
 use Rattle.guest_space.proofs.SoundLists.{IsSound-callbacks}
 use Rattle.service_rows.specs.Reasons.{HasOtherAx, Service, first_reason, unsupported}
-use Rattle.service_rows.proofs.AnswerLaws.{if_has, of_answer, refused_by_family, sound_ax}
-use Rattle.service_rows.proofs.WidthLaws.{protected_width}
-use Rattle.callbacks.specs.HandOver.{LeftByService}
-use Rattle.callbacks.specs.Services.{addressed_slot, allocate_callback, callback_function, callback_service, ds_si, free_callback}
-use Rattle.callbacks.specs.Services.{free_slot, with_new_callback}
+use Rattle.service_rows.proofs.{AnswerLaws.{if_has, of_answer, refused_by_family, sound_ax}, WidthLaws.{protected_width}}
+use Rattle.callbacks.specs.{HandOver.{LeftByService}, Services.{addressed_slot, allocate_callback, callback_function, callback_service}}
+use Rattle.callbacks.specs.Services.{ds_si, free_callback, free_slot, with_new_callback}
 
 other_parts : (r : Regs) (c d : ℕ) → HasSegments r → HasSegments (record r { ecx = c; edx = d })
 other_parts r c d h = record { es = h.es; cs = h.cs; ss = h.ss; ds = h.ds; fs = h.fs; gs = h.gs }

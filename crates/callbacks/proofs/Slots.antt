@@ -1,9 +1,7 @@
 -- Which slots are free.
-use Rattle.std.proofs.Common.{◌≡◌, ◌≤◌, ℕ, Bool, List, length, arith, Option, None}
+use Rattle.std.proofs.{Common.{◌≡◌, ◌≤◌, ℕ, Bool, List, length, arith, Option, None}, lemmas.List.{get_or_past}}
 use Rattle.std.specs.Prelude.{is_none}
-use Rattle.std.proofs.lemmas.List.{get_or_past}
-use Rattle.client_world.specs.declared.limits.TheConstants.{CALLBACKS}
-use Rattle.client_world.specs.World.{Callback}
+use Rattle.client_world.specs.{declared.limits.TheConstants.{CALLBACKS}, World.{Callback}}
 use Rattle.guest_space.specs.VectorLists.{callback_of_slot}
 
 -- a slot is free

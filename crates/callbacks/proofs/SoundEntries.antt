@@ -1,42 +1,26 @@
 -- A callback and its return lead from a sound world to a sound one.
 use Rattle.std.proofs.Common.{◌≡◌, ◌≢◌, ℕ, ◌-◌, ◌<◌, ◌≤◌, Bool, true, false, List, [], ◌∷◌, ◌++◌, length, take, inl, inr, refl, ap, ◌∙◌}
-use Rattle.std.proofs.Common.{sym, subst, arith, None, Some, Ok, Err}
+use Rattle.std.proofs.{Common.{sym, subst, arith, None, Some, Ok, Err}, lemmas.Bool.{cases_lt}, lemmas.List.{length-append, length-take-le}}
 use Rattle.std.specs.Prelude.{if◌then◌else◌}
-use Rattle.std.proofs.lemmas.Bool.{cases_lt}
-use Rattle.std.proofs.lemmas.List.{get_or_past, length-append, length-take-le}
-use Rattle.client_world.specs.declared.calls.Record.TheVariants.{Back}
-use Rattle.client_world.specs.declared.faults.TheConstants.{GENERAL_PROTECTION}
-use Rattle.client_world.specs.declared.host_frames.TheConstants.{DESCRIPTORS}
-use Rattle.client_world.specs.declared.limits.TheConstants.{GREATEST_DEPTH}
-use Rattle.client_world.specs.declared.registers.TheConstants.{INTERRUPT_BIT}
-use Rattle.client_world.specs.declared.segments.FarPtr.{FarPtr}
-use Rattle.client_world.specs.declared.segments.SegReg.TheVariants.{Es, Cs}
-use Rattle.client_world.specs.Access.{base_in_row, fault_with, is_reachable}
-use Rattle.client_world.specs.Registers.{has_bit}
-use Rattle.client_world.specs.Selector.{Row, index_of, is_local, is_null, row_at_index}
-use Rattle.client_world.specs.Services.{es_di}
-use Rattle.client_world.specs.Soundness.{IsSound, HasSegments}
-use Rattle.client_world.specs.World.{World, depth}
-use Rattle.client_world.proofs.SoundWrites.{IsSound-real, IsSound-regs, IsSound-vif}
+use Rattle.client_world.specs.{declared.calls.Record.TheVariants.{Back}, declared.faults.TheConstants.{GENERAL_PROTECTION}}
+use Rattle.client_world.specs.{declared.host_frames.TheConstants.{DESCRIPTORS}, declared.limits.TheConstants.{GREATEST_DEPTH}}
+use Rattle.client_world.specs.{declared.registers.TheConstants.{INTERRUPT_BIT}, declared.segments.FarPtr.{FarPtr}}
+use Rattle.client_world.specs.{declared.segments.SegReg.TheVariants.{Es, Cs}, Access.{base_in_row, fault_with, is_reachable}}
+use Rattle.client_world.specs.{Registers.{has_bit}, Selector.{Row, index_of, is_local, is_null, row_at_index}, Services.{es_di}}
+use Rattle.client_world.specs.{Soundness.{IsSound, HasSegments}, World.{World, depth}}
+use Rattle.client_world.proofs.{SoundWrites.{IsSound-real, IsSound-regs, IsSound-vif}, NamedWords.{loadable_is_word, past}}
 use Rattle.guest_ram.specs.Bytes.{AreBytes}
 use Rattle.guest_space.specs.Far.{world_after_far_write}
-use Rattle.guest_space.proofs.Fars.{reached}
-use Rattle.guest_space.proofs.FarPuts.{sound_far_put}
-use Rattle.guest_space.proofs.RecordWrites.{has_width}
-use Rattle.guest_space.proofs.SoundLists.{IsSound-calls}
-use Rattle.translation.specs.declared.structure.TheConstants.{STRUCTURE_SIZE}
-use Rattle.translation.specs.Structure.{structure_bytes, structure_flags, structure_regs}
-use Rattle.translation.proofs.NamedWords.{loadable_is_word}
-use Rattle.translation.proofs.ReadBytes.{far_are_bytes}
-use Rattle.translation.proofs.SoundCallee.{structure_segments}
-use Rattle.translation.proofs.SoundReturns.{some_width}
+use Rattle.guest_space.proofs.{Fars.{reached}, FarPuts.{sound_far_put}, RecordWrites.{has_width}, SoundLists.{IsSound-calls}}
+use Rattle.guest_space.proofs.SoundBytes.{far_are_bytes}
+use Rattle.translation.specs.{declared.structure.TheConstants.{STRUCTURE_SIZE}, Structure.{structure_bytes, structure_flags}}
+use Rattle.translation.specs.Structure.{structure_regs}
+use Rattle.translation.proofs.{SoundCallee.{structure_segments}, SoundReturns.{some_width}}
 use Rattle.callbacks.specs.Callbacks.{after_entering, after_leaving, caller_structure, enter_callback, callback_frame_start}
 use Rattle.callbacks.specs.Callbacks.{callback_frame_size, leave_callback, procedure_regs, callback_frame, with_frame_and_structure}
 use Rattle.callbacks.specs.Callbacks.{with_stack_row}
-use Rattle.callbacks.proofs.FrameBytes.{caller_bytes, frame_bytes}
-use Rattle.callbacks.proofs.KeptWorld.{memory_alone}
-use Rattle.callbacks.proofs.SoundStackRow.{held_width, sound_with_stack_row}
-use Rattle.callbacks.proofs.Started.{is_back, is_start}
+use Rattle.callbacks.proofs.{FrameBytes.{caller_bytes, frame_bytes}, KeptWorld.{memory_alone}, SoundStackRow.{held_width}}
+use Rattle.callbacks.proofs.{SoundStackRow.{sound_with_stack_row}, Started.{is_back, is_start}}
 
 -- ---- a selector through which something is reached is a word
 
@@ -46,9 +30,6 @@ no_base_there true local row sel offset n base write none e = absurd cc
 no_base_there false true None sel offset n base write none e = absurd cc
 no_base_there false true (Some row) sel offset n base write none e = absurd cc
 no_base_there false false row sel offset n base write none e = absurd cc
-
-past : (rows : List Row) (sel : ℕ) → length rows ≡ DESCRIPTORS → 0x10000 ≤ sel → row_at_index rows (index_of sel) ≡ None
-past rows sel size large = get_or_past rows (index_of sel) None (omega (arith, size))
 
 reachable_is_word : (w : World) (p : FarPtr) (n : ℕ) (write : Bool) → length w.descriptors ≡ DESCRIPTORS → is_reachable w p n write ≡ true →
     p.sel < 0x10000

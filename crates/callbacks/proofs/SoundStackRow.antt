@@ -1,16 +1,10 @@
 -- The world with the descriptor of a real caller's stack is sound.
-use Rattle.std.proofs.Common.{◌≡◌, ◌≢◌, ℕ, ◌*◌, ◌<◌, slice_set, refl, ap, sym, arith, Option, None, Some}
-use Rattle.std.proofs.lemmas.Option.{same_Some}
-use Rattle.client_world.specs.declared.descriptors.Desc.{Desc}
-use Rattle.client_world.specs.declared.descriptors.Origin.{Origin}
-use Rattle.client_world.specs.declared.descriptors.Origin.TheVariants.{Host}
-use Rattle.client_world.specs.declared.limits.TheConstants.{GREATEST_DEPTH}
-use Rattle.client_world.specs.declared.memory_map.TheConstants.{PARAGRAPH_SIZE}
-use Rattle.client_world.specs.declared.registers.Width.{Width}
-use Rattle.client_world.specs.Descriptor.{FitsDescriptor}
-use Rattle.client_world.specs.Selector.{Row, row_at_index}
-use Rattle.client_world.specs.Soundness.{IsSound, IsCallbackStack, IsOfDosBlock, SoundWidth}
-use Rattle.client_world.specs.World.{Callback, World, depth}
+use Rattle.std.proofs.{Common.{◌≡◌, ◌≢◌, ℕ, ◌*◌, ◌<◌, slice_set, refl, ap, sym, arith, Option, None, Some}, lemmas.Option.{same_Some}}
+use Rattle.client_world.specs.{declared.descriptors.Desc.{Desc}, declared.descriptors.Origin.{Origin}}
+use Rattle.client_world.specs.{declared.descriptors.Origin.TheVariants.{Host}, declared.limits.TheConstants.{GREATEST_DEPTH}}
+use Rattle.client_world.specs.{declared.memory_map.TheConstants.{PARAGRAPH_SIZE}, declared.registers.Width.{Width}}
+use Rattle.client_world.specs.{Descriptor.{FitsDescriptor}, Selector.{Row, row_at_index}, Soundness.{IsSound, IsCallbackStack}}
+use Rattle.client_world.specs.{Soundness.{IsOfDosBlock, SoundWidth}, World.{Callback, World, depth}}
 use Rattle.client_world.proofs.SoundRows.{host_stands, row_keeps_sound}
 use Rattle.guest_space.specs.VectorLists.{callback_of_slot}
 use Rattle.service_rows.specs.Rows.{data_at}

@@ -1,27 +1,17 @@
 -- What is asked in the world that has the descriptor of the real caller's stack, by what is asked in the world before it was set.
 use Rattle.std.proofs.Common.{◌≡◌, ◌≢◌, ℕ, ◌+◌, ◌*◌, ◌/◌, ◌%◌, ◌^◌, ◌<◌, Bool, true, false, ◌&&◌, not, List, slice_set, length, refl, ap}
 use Rattle.std.proofs.Common.{◌∙◌, sym, arith, Option, None, Some, Result, Ok, Err, get_or-set_same, get_or-set_other}
+use Rattle.std.proofs.{lemmas.Bool.Decides.{nat_tests}, lemmas.Bool.{and_parts}}
 use Rattle.std.specs.Prelude.{is_none, is_ok, nat_eq, nat_le, if◌then◌else◌}
-use Rattle.std.proofs.lemmas.Bool.Decides.{nat_tests}
-use Rattle.client_world.specs.declared.faults.Fault.{Fault}
-use Rattle.client_world.specs.declared.faults.TheConstants.{GENERAL_PROTECTION, STACK_EXCEPTION}
-use Rattle.client_world.specs.declared.memory_map.TheConstants.{PARAGRAPH_SIZE}
-use Rattle.client_world.specs.declared.place.Place.{Place}
-use Rattle.client_world.specs.declared.registers.Mode.{Mode}
-use Rattle.client_world.specs.declared.registers.Mode.TheVariants.{Real, Protected}
-use Rattle.client_world.specs.declared.segments.FarPtr.{FarPtr}
-use Rattle.client_world.specs.declared.segments.SegReg.TheVariants.{Cs, Es, Ss}
-use Rattle.client_world.specs.Access.{access, base_in_row, far_access, fault_with, is_reachable, places_at, real_base, segment_base}
-use Rattle.client_world.specs.Loading.{code_row_fault, is_loadable, load_fault}
-use Rattle.client_world.specs.Selector.{Row, index_of, is_local, is_null, row_at_index, row_of_selector}
-use Rattle.client_world.specs.Soundness.{IsSound}
-use Rattle.client_world.specs.World.{World, MemoryBlock}
+use Rattle.client_world.specs.{declared.faults.Fault.{Fault}, declared.faults.TheConstants.{GENERAL_PROTECTION, STACK_EXCEPTION}}
+use Rattle.client_world.specs.{declared.memory_map.TheConstants.{PARAGRAPH_SIZE}, declared.place.Place.{Place}}
+use Rattle.client_world.specs.{declared.registers.Mode.{Mode}, declared.registers.Mode.TheVariants.{Real, Protected}}
+use Rattle.client_world.specs.{declared.segments.FarPtr.{FarPtr}, declared.segments.SegReg.TheVariants.{Cs, Es, Ss}, Access.{access}}
+use Rattle.client_world.specs.Access.{base_in_row, far_access, fault_with, is_reachable, places_at, real_base, segment_base}
+use Rattle.client_world.specs.{Loading.{code_row_fault, is_loadable, load_fault}, Selector.{Row, index_of, is_local, is_null, row_at_index}}
+use Rattle.client_world.specs.{Selector.{row_of_selector}, Soundness.{IsSound}, World.{World, MemoryBlock}}
 use Rattle.guest_space.specs.Transfer.{access_fault, fault_of}
 use Rattle.callbacks.specs.Callbacks.{stack_index, stack_row, with_stack_row}
-
-both : (a b : Bool) → (a && b) ≡ true → (a ≡ true) × (b ≡ true)
-both true b e = (refl, e)
-both false b e = absurd cc
 
 -- a selector names the row at an index
 abbrev pub names : ℕ → ℕ → Bool
@@ -36,7 +26,7 @@ other_number a b e f = grind (arith, nat_tests)
 row_here : (rows : List Row) (index sel : ℕ) (row : Row) → index < length rows → names sel index ≡ true →
     row_of_selector (slice_set rows index row) sel ≡ row
 row_here rows index sel row within e =
-    let parts = both (is_local sel) (nat_eq (index_of sel) index) e in
+    let parts = and_parts (is_local sel) (nat_eq (index_of sel) index) e in
     let same = same_number (index_of sel) index parts.1 in
     rw (parts.0, same) (get_or-set_same rows index row None within)
 
@@ -128,7 +118,7 @@ reach_here w p n s mode e =
     (row_here w.descriptors (stack_index w) p.sel (stack_row w) (indices w s) e)
     ∙ ap (λ (null : Bool). is_ok (places_at w.blocks (if null then Err (fault_with GENERAL_PROTECTION 0)
     else base_in_row Es p.sel (stack_row w) p.off n true) p.off n true))
-    (local_is_not_null p.sel (both (is_local p.sel) (nat_eq (index_of p.sel) (stack_index w)) e).0)
+    (local_is_not_null p.sel (and_parts (is_local p.sel) (nat_eq (index_of p.sel) (stack_index w)) e).0)
     ∙ inside_both w.blocks (w.regs.ss * PARAGRAPH_SIZE) p.off n (fault_with GENERAL_PROTECTION 0) (fault_with STACK_EXCEPTION 0)
     (nat_le (p.off + n) 0x10000) (nat_le (p.off + n) (2 ^ 32)) (segment_is_small (p.off + n))
     ∙ ap (λ (r : Result ℕ Fault). is_none (fault_of (places_at w.blocks r p.off n true))) (sym (real_access w.mode w p.off n mode))

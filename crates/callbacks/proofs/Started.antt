@@ -1,25 +1,19 @@
 -- A callback that starts, and a return that is made: what was asked holds, and the world after it.
-use Rattle.std.proofs.Common.{◌≡◌, ℕ, ◌<◌, Bool, true, false, not, [], ◌∷◌, ◌++◌, refl, Option, None, Some, Result, Ok, Err}
-use Rattle.std.specs.Prelude.{nat_le, if◌then◌else◌}
+use Rattle.std.proofs.Common.{◌≡◌, ℕ, ◌<◌, Bool, true, false, [], ◌∷◌, ◌++◌, refl, Option, None, Some, Result, Ok, Err}
 use Rattle.std.proofs.lemmas.Bool.{leb-false}
-use Rattle.client_world.specs.declared.calls.Record.{Record}
-use Rattle.client_world.specs.declared.calls.Record.TheVariants.{Sim, Back, Exc}
-use Rattle.client_world.specs.declared.limits.TheConstants.{GREATEST_DEPTH}
-use Rattle.client_world.specs.declared.outcome.Exit.{Exit}
-use Rattle.client_world.specs.declared.outcome.Exit.TheVariants as exits
-use Rattle.client_world.specs.declared.segments.FarPtr.{FarPtr}
-use Rattle.client_world.specs.declared.segments.SegReg.TheVariants.{Cs}
-use Rattle.client_world.specs.Access.{is_reachable}
-use Rattle.client_world.specs.Loading.{is_loadable}
-use Rattle.client_world.specs.Services.{es_di}
-use Rattle.client_world.specs.World.{Callback, World, depth}
+use Rattle.std.specs.Prelude.{nat_le, if◌then◌else◌}
+use Rattle.client_world.specs.{declared.calls.Record.{Record}, declared.calls.Record.TheVariants.{Sim, Back, Exc}}
+use Rattle.client_world.specs.{declared.limits.TheConstants.{GREATEST_DEPTH}, declared.outcome.Exit.{Exit}}
+use Rattle.client_world.specs.{declared.segments.FarPtr.{FarPtr}, declared.segments.SegReg.TheVariants.{Cs}, Access.{is_reachable}}
+use Rattle.client_world.specs.{Loading.{is_loadable}, Services.{es_di}, World.{Callback, World, depth}}
 use Rattle.guest_space.specs.VectorLists.{callback_of_slot}
 use Rattle.mode_stack.specs.Stack.{top}
-use Rattle.translation.specs.declared.structure.TheConstants.{STRUCTURE_SIZE}
-use Rattle.translation.specs.Structure.{structure_bytes}
-use Rattle.translation.proofs.Ended.{but_last, some_record, split_last}
+use Rattle.translation.specs.{declared.structure.TheConstants.{STRUCTURE_SIZE}, Structure.{structure_bytes}}
+use Rattle.translation.proofs.Ended.{some_record, passed}
 use Rattle.callbacks.specs.Callbacks.{after_entering, after_leaving, enter_callback, entered_slot, leave_callback, left_record}
 use Rattle.callbacks.specs.Callbacks.{with_stack_row}
+use Rattle.mode_stack.proofs.LastRecord.{but_last, split_last}
+use Rattle.client_world.specs.declared.outcome.Exit.TheVariants as exits
 
 -- a callback that starts
 pub record IsStart (w u : World) (slot : ℕ) : Type 0 where
@@ -30,10 +24,6 @@ pub record IsStart (w u : World) (slot : ℕ) : Type 0 where
   pub code : is_loadable (with_stack_row w) Cs procedure.sel procedure.off false ≡ true
   pub there : is_reachable (with_stack_row w) at STRUCTURE_SIZE true ≡ true
   pub is : u ≡ after_entering (with_stack_row w) slot procedure at
-
-passed : (b : Bool) (e : Exit) (r : Result World Exit) (u : World) → (if not b then Err e else r) ≡ Ok u → (b ≡ true) × (r ≡ Ok u)
-passed true e r u h = (refl, h)
-passed false e r u h = absurd cc
 
 not_there : (b : Bool) (e : Exit) (r : Result World Exit) (u : World) → (if b then Err e else r) ≡ Ok u → (b ≡ false) × (r ≡ Ok u)
 not_there true e r u h = absurd cc

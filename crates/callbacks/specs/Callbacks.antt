@@ -1,40 +1,25 @@
 -- A real-mode callback: a real-mode program that reaches its trap byte goes to a procedure of protected mode, which gets the program's
 -- registers in a call structure, and leaves there those with which real mode goes on.
 -- Source: DPMI 0.9, INT 31h function 0303h; the host's stacks, the depth, the descriptor of the real stack and the exits are own.
-use Rattle.std.specs.Prelude.{ℕ, ◌+◌, ◌-◌, ◌*◌, false, true, not, nat_le, List, [], ◌∷◌, ◌++◌, None, Some, Ok, Err, if◌then◌else◌}
-use Rattle.std.specs.Prelude.{slice_set, take}
-use Rattle.std.specs.declared.option.Option.{Option}
-use Rattle.std.specs.declared.result.Result.{Result}
-use Rattle.client_world.specs.declared.calls.Record.{Record}
-use Rattle.client_world.specs.declared.calls.Record.TheVariants.{Sim, Back, Exc}
-use Rattle.client_world.specs.declared.descriptors.Origin.TheVariants.{Host}
-use Rattle.client_world.specs.declared.limits.TheConstants.{GREATEST_DEPTH}
-use Rattle.client_world.specs.declared.memory_map.TheConstants.{PARAGRAPH_SIZE, ROM_SEGMENT, ROM_START}
-use Rattle.client_world.specs.declared.outcome.Exit.{Exit}
-use Rattle.client_world.specs.declared.outcome.Exit.TheVariants as exits
-use Rattle.client_world.specs.declared.registers.Mode.TheVariants.{Real, Protected}
-use Rattle.client_world.specs.declared.registers.Regs.{Regs}
-use Rattle.client_world.specs.declared.registers.TheConstants.{INTERRUPT_BIT}
-use Rattle.client_world.specs.declared.segments.FarPtr.{FarPtr}
-use Rattle.client_world.specs.declared.segments.SegReg.TheVariants.{Cs}
-use Rattle.client_world.specs.declared.selectors.TheConstants.{CALLBACK_STACKS, HOST_CODE, HOST_STACKS}
-use Rattle.client_world.specs.declared.traps.TheConstants.{CALLBACK_RETURN_TRAP}
-use Rattle.client_world.specs.Access.{is_reachable}
-use Rattle.client_world.specs.Loading.{is_loadable}
-use Rattle.client_world.specs.Registers.{flags_image, has_bit, low_half}
-use Rattle.client_world.specs.Selector.{Row, client_selector, selector_of}
-use Rattle.client_world.specs.Services.{es_di}
-use Rattle.client_world.specs.World.{Callback, World, depth}
+use Rattle.std.specs.Prelude.{ℕ, ◌+◌, ◌-◌, ◌*◌, false, true, not, nat_le, List, [], ◌∷◌, ◌++◌, None, Some, Ok, Err, if◌then◌else◌, take}
+use Rattle.std.specs.{declared.option.Option.{Option}, declared.result.Result.{Result}}
+use Rattle.client_world.specs.{declared.calls.Record.{Record}, declared.calls.Record.TheVariants.{Sim, Back, Exc}}
+use Rattle.client_world.specs.{declared.descriptors.Origin.TheVariants.{Host}, declared.limits.TheConstants.{GREATEST_DEPTH}}
+use Rattle.client_world.specs.{declared.memory_map.TheConstants.{PARAGRAPH_SIZE, ROM_SEGMENT, ROM_START}, declared.outcome.Exit.{Exit}}
+use Rattle.client_world.specs.{declared.registers.Mode.TheVariants.{Real, Protected}, declared.registers.Regs.{Regs}}
+use Rattle.client_world.specs.{declared.registers.TheConstants.{INTERRUPT_BIT}, declared.segments.FarPtr.{FarPtr}}
+use Rattle.client_world.specs.{declared.segments.SegReg.TheVariants.{Cs}, declared.selectors.TheConstants.{CALLBACK_STACKS, HOST_CODE}}
+use Rattle.client_world.specs.{declared.selectors.TheConstants.{HOST_STACKS}, declared.traps.TheConstants.{CALLBACK_RETURN_TRAP}}
+use Rattle.client_world.specs.{Access.{is_reachable}, Loading.{is_loadable}, Registers.{flags_image, has_bit, low_half}, Selector.{Row}}
+use Rattle.client_world.specs.{Selector.{client_selector, selector_of}, Services.{es_di}, World.{Callback, World, depth}}
 use Rattle.exec_flow.specs.Interrupts.{item_bits}
-use Rattle.guest_space.specs.Far.{world_after_far_write}
-use Rattle.guest_space.specs.Pending.{byte_count, number_bytes}
-use Rattle.guest_space.specs.VectorLists.{callback_of_slot}
-use Rattle.mode_stack.specs.Frames.{frame_address}
-use Rattle.mode_stack.specs.Stack.{top}
-use Rattle.service_rows.specs.Rows.{data_at, with_by_width}
-use Rattle.translation.specs.declared.structure.TheConstants.{STRUCTURE_SIZE}
-use Rattle.translation.specs.Structure.{index_results, other_results, structure_bytes, structure_flags, structure_regs}
+use Rattle.guest_space.specs.{Far.{world_after_far_write}, Pending.{byte_count, number_bytes}, VectorLists.{callback_of_slot}}
+use Rattle.mode_stack.specs.{Frames.{frame_address}, Stack.{top}}
+use Rattle.service_rows.specs.Rows.{data_at, with_by_width, with_row}
+use Rattle.translation.specs.{declared.structure.TheConstants.{STRUCTURE_SIZE}, Structure.{index_results, other_results, structure_bytes}}
+use Rattle.translation.specs.Structure.{structure_flags, structure_regs}
 use Rattle.callbacks.specs.Services.{callback_offset}
+use Rattle.client_world.specs.declared.outcome.Exit.TheVariants as exits
 
 -- ---- the real caller's stack, as a segment of protected mode
 
@@ -47,7 +32,7 @@ abbrev pub stack_row : World → Row
 stack_row w = Some (data_at (w.regs.ss * PARAGRAPH_SIZE) 0xFFFF, Host)
 
 unfoldable pub with_stack_row : World → World
-with_stack_row w = record w { descriptors = slice_set w.descriptors (stack_index w) (stack_row w) }
+with_stack_row w = with_row (stack_index w) (stack_row w) w
 
 -- ---- what the procedure starts with
 

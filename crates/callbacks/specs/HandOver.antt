@@ -1,13 +1,8 @@
 -- What a callback and its return hand over. Source: DPMI 0.9, INT 31h function 0303h.
 use Rattle.std.specs.Prelude.{◌≡◌, ℕ, false, [], ◌∷◌, ◌++◌, Some}
-use Rattle.client_world.specs.declared.calls.Record.TheVariants.{Back}
-use Rattle.client_world.specs.declared.registers.Mode.TheVariants.{Real, Protected}
-use Rattle.client_world.specs.declared.registers.TheConstants.{INTERRUPT_BIT}
-use Rattle.client_world.specs.declared.segments.FarPtr.{FarPtr}
-use Rattle.client_world.specs.Registers.{has_bit}
-use Rattle.client_world.specs.Selector.{row_at_index}
-use Rattle.client_world.specs.Services.{es_di}
-use Rattle.client_world.specs.World.{World}
+use Rattle.client_world.specs.{declared.calls.Record.TheVariants.{Back}, declared.registers.Mode.TheVariants.{Real, Protected}}
+use Rattle.client_world.specs.{declared.registers.TheConstants.{INTERRUPT_BIT}, declared.segments.FarPtr.{FarPtr}, Registers.{has_bit}}
+use Rattle.client_world.specs.{Selector.{row_at_index}, Services.{es_di}, World.{World}}
 use Rattle.guest_space.specs.VectorLists.{callback_of_slot}
 use Rattle.translation.specs.Structure.{structure_bytes, structure_flags, structure_regs}
 use Rattle.callbacks.specs.Callbacks.{after_leaving, caller_structure, procedure_regs, stack_index, stack_row}

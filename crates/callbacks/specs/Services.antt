@@ -2,18 +2,12 @@
 -- and the reasons of refusal, are own.
 use Rattle.std.specs.Prelude.{ℕ, ◌+◌, ◌-◌, Bool, ◌&&◌, [], ◌∷◌, None, Some, is_none, is_some, nat_eq, nat_le, not, if◌then◌else◌, slice_set}
 use Rattle.std.specs.declared.option.Option.{Option}
-use Rattle.client_world.specs.declared.limits.TheConstants.{CALLBACKS}
-use Rattle.client_world.specs.declared.memory_map.TheConstants.{ROM_SEGMENT, ROM_START}
-use Rattle.client_world.specs.declared.segments.FarPtr.{FarPtr}
-use Rattle.client_world.specs.declared.traps.TheConstants.{CALLBACK_TRAPS}
-use Rattle.client_world.specs.Registers.{with_low_half}
-use Rattle.client_world.specs.Services.{Served, by_width, cx, dx, es_di, is_held}
-use Rattle.client_world.specs.World.{World}
+use Rattle.client_world.specs.{declared.limits.TheConstants.{CALLBACKS}, declared.memory_map.TheConstants.{ROM_SEGMENT, ROM_START}}
+use Rattle.client_world.specs.{declared.segments.FarPtr.{FarPtr}, declared.traps.TheConstants.{CALLBACK_TRAPS}, Registers.{with_low_half}}
+use Rattle.client_world.specs.{Services.{Served, by_width, cx, dx, es_di, is_held}, World.{World}}
 use Rattle.guest_space.specs.VectorLists.{callback_of_slot}
 use Rattle.service_rows.specs.declared.refusal.Refusal.TheVariants.{CallbackUnavailable, InvalidCallback, InvalidSelector}
-use Rattle.service_rows.specs.FirstIndex.{first_index}
-use Rattle.service_rows.specs.Reasons.{Service, family_outcome, unsupported}
-use Rattle.service_rows.specs.Rows.{is_code_selector}
+use Rattle.service_rows.specs.{FirstIndex.{first_index}, Reasons.{Service, family_outcome, unsupported}, Rows.{is_code_selector}}
 
 -- the address in real mode of the callback of a slot: the segment of read-only memory, and there the trap byte of the slot
 abbrev pub callback_offset : ℕ → ℕ

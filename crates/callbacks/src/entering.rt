@@ -1,25 +1,13 @@
 // The call of a callback.
 ghost use Rattle.std.specs.Prelude.{◌≡◌, ◌≢◌, ◌<◌, IsTrue, true, None, Ok, Err, MatchResult, if◌then◌else◌};
-ghost use Rattle.client_world.specs.declared.limits.TheConstants.{GREATEST_DEPTH};
-ghost use Rattle.client_world.specs.declared.registers.Mode.TheVariants.{Real as real};
-ghost use Rattle.client_world.specs.Access.{is_reachable};
-ghost use Rattle.client_world.specs.World.{depth};
+ghost use Rattle.client_world.specs.{declared.limits.TheConstants.{GREATEST_DEPTH}, declared.registers.Mode.TheVariants.{Real as real}};
+ghost use Rattle.client_world.specs.{Access.{is_reachable}, World.{depth}};
 ghost use Rattle.exec_flow.specs.Interrupts.{item_bits};
-ghost use Rattle.guest_space.specs.Far.{world_after_far_write, after_far_write};
-ghost use Rattle.guest_space.specs.Transfer.{HasOtherMemory};
+ghost use Rattle.guest_space.specs.{Far.{world_after_far_write, after_far_write}, Transfer.{HasOtherMemory}};
 ghost use Rattle.guest_space.specs.VectorLists.{callback_of_slot};
 ghost use Rattle.translation.specs.declared.structure.TheConstants.{STRUCTURE_SIZE as structure_size};
-ghost use Rattle.callbacks.specs.Callbacks.{
-  after_entering,
-  caller_structure,
-  enter_callback,
-  callback_frame_start,
-  callback_frame_size,
-  procedure_regs,
-  callback_frame,
-  with_frame_and_structure,
-  with_stack_row,
-};
+ghost use Rattle.callbacks.specs.Callbacks.{after_entering, caller_structure, enter_callback, callback_frame_start, callback_frame_size};
+ghost use Rattle.callbacks.specs.Callbacks.{procedure_regs, callback_frame, with_frame_and_structure, with_stack_row};
 
 use crate::real_stack::{is_loadable, is_writable, set_stack_row, stack_index};
 use crate::services::callback_offset;

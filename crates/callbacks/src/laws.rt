@@ -1,13 +1,9 @@
 // What holds of every callback, of its return and of the services on callbacks. Each function has nothing to do: its contract is the law.
 ghost use Rattle.std.specs.Prelude.{◌≡◌, ℕ, Ok};
 ghost use Rattle.client_world.specs.declared.registers.Mode.TheVariants.{Protected as protected};
-ghost use Rattle.client_world.specs.declared.services.Carry.TheVariants.{Set as set};
-ghost use Rattle.client_world.specs.Soundness.{IsSound};
-ghost use Rattle.client_world.specs.World.{World};
-ghost use Rattle.callbacks.specs.Callbacks.{enter_callback, leave_callback};
-ghost use Rattle.callbacks.specs.HandOver.{HasEntered, HasLeft, IsCallbackPopped, IsCallbackPushed, LeftByService, LeftForProcedure};
-ghost use Rattle.callbacks.specs.HandOver.{LeftForReal};
-ghost use Rattle.callbacks.specs.Services.{callback_service};
+ghost use Rattle.client_world.specs.{declared.services.Carry.TheVariants.{Set as set}, Soundness.{IsSound}, World.{World}};
+ghost use Rattle.callbacks.specs.{Callbacks.{enter_callback, leave_callback}, HandOver.{HasEntered, HasLeft, IsCallbackPopped}};
+ghost use Rattle.callbacks.specs.{HandOver.{IsCallbackPushed, LeftByService, LeftForProcedure, LeftForReal}, Services.{callback_service}};
 ghost use Rattle.service_rows.specs.Reasons.{HasOtherAx};
 
 /// A callback, its return and the services on callbacks lead from a sound world to a sound one.

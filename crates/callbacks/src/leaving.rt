@@ -1,9 +1,7 @@
 // The return from a callback.
 ghost use Rattle.std.specs.Prelude.{◌≡◌, ◌<◌, ◌-◌, Ok, Err, MatchResult, take};
-ghost use Rattle.client_world.specs.declared.registers.Mode.TheVariants.{Real as real};
-ghost use Rattle.client_world.specs.declared.registers.TheConstants.{INTERRUPT_BIT};
-ghost use Rattle.client_world.specs.Registers.{has_bit};
-ghost use Rattle.client_world.specs.World.{depth};
+ghost use Rattle.client_world.specs.{declared.registers.Mode.TheVariants.{Real as real}, declared.registers.TheConstants.{INTERRUPT_BIT}};
+ghost use Rattle.client_world.specs.{Registers.{has_bit}, World.{depth}};
 ghost use Rattle.callbacks.specs.Callbacks.{leave_callback};
 
 use client_world::{Exit, Mode, Record, is_interrupt_set};

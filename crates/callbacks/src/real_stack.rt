@@ -1,12 +1,8 @@
 // The descriptor of the real caller's stack, and what is asked before it is set as if it were there.
 ghost use Rattle.std.specs.Prelude.{◌≡◌, ◌≢◌, ◌<◌, ◌&&◌, false, true, is_none, nat_eq, None};
-ghost use Rattle.client_world.specs.declared.limits.TheConstants.{GREATEST_DEPTH};
-ghost use Rattle.client_world.specs.declared.registers.Mode.TheVariants.{Real as real};
-ghost use Rattle.client_world.specs.declared.segments.SegReg.TheVariants.{Cs, Ss};
-ghost use Rattle.client_world.specs.Access.{is_reachable};
-ghost use Rattle.client_world.specs.Loading.{is_loadable};
-ghost use Rattle.client_world.specs.Selector.{index_of, is_local};
-ghost use Rattle.client_world.specs.World.{depth};
+ghost use Rattle.client_world.specs.{declared.limits.TheConstants.{GREATEST_DEPTH}, declared.registers.Mode.TheVariants.{Real as real}};
+ghost use Rattle.client_world.specs.{declared.segments.SegReg.TheVariants.{Cs, Ss}, Access.{is_reachable}, Loading.{is_loadable}};
+ghost use Rattle.client_world.specs.{Selector.{index_of, is_local}, World.{depth}};
 ghost use Rattle.guest_space.specs.Transfer.{access_fault};
 ghost use Rattle.translation.specs.declared.structure.TheConstants.{STRUCTURE_SIZE as structure_size};
 ghost use Rattle.callbacks.specs.Callbacks.{stack_index, stack_row, with_stack_row};

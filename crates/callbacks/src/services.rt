@@ -1,7 +1,6 @@
 // The allocation of callbacks.
 ghost use Rattle.std.specs.Prelude.{◌≡◌, ◌≢◌, ◌<◌, IfSome, None, Some, if◌then◌else◌};
-ghost use Rattle.client_world.specs.declared.limits.TheConstants.{CALLBACKS};
-ghost use Rattle.client_world.specs.Services.{is_held};
+ghost use Rattle.client_world.specs.{declared.limits.TheConstants.{CALLBACKS}, Services.{is_held}};
 ghost use Rattle.service_rows.specs.Reasons.{Does};
 ghost use Rattle.callbacks.specs.Services.{addressed_slot, allocate_callback, callback_offset, ds_si, free_callback, free_slot};
 ghost use Rattle.callbacks.specs.Services.{is_callback_address};

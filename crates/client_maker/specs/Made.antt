@@ -1,8 +1,7 @@
 -- The file of a made client.
 -- Source: the header is that of MS-DOS executable files; the code is own.
 use Rattle.std.specs.Prelude.{ℕ, ◌+◌, ◌/◌, ◌%◌, List, [], ◌∷◌, ◌++◌, length}
-use Rattle.client_maker.specs.declared.TheConstants.{PIECES}
-use Rattle.client_maker.specs.Pieces.{word_bytes, pieces}
+use Rattle.client_maker.specs.{declared.TheConstants.{PIECES}, Pieces.{word_bytes, pieces}}
 
 -- the entry into protected mode as a 16-bit client: MOV AX,1687h; INT 2Fh; PUSH ES; PUSH DI; MOV BP,SP; XOR AX,AX; CALL FAR [BP]
 abbrev pub entry_code : List ℕ

@@ -5,8 +5,7 @@
 #![tactic(auto)]
 
 ghost use Rattle.std.specs.Prelude.{◌≡◌, ◌≤◌, ◌+◌, ◌++◌, length, IfOk, OnOk};
-ghost use Rattle.client_maker.specs.Pieces.{next_number, piece, chosen_piece};
-ghost use Rattle.client_maker.specs.Made.{header, made_code, made};
+ghost use Rattle.client_maker.specs.{Pieces.{next_number, piece, chosen_piece}, Made.{header, made_code, made}};
 
 use std::alloc::{AllocError, Global};
 

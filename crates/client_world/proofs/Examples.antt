@@ -1,17 +1,11 @@
 -- The definitions on numbers that were worked by hand from the manual and the memory map: each line is evaluated.
 use Rattle.std.proofs.Common.{◌≡◌, ◌-◌, true, false, List, [], ◌∷◌, Some, None, Err, refl}
-use Rattle.client_world.specs.declared.descriptors.Desc.{Desc}
-use Rattle.client_world.specs.declared.descriptors.Kind.TheVariants.{Data, Code}
-use Rattle.client_world.specs.declared.descriptors.Origin.TheVariants.{Own}
-use Rattle.client_world.specs.declared.memory_map.TheConstants.{HOST_WINDOW_END}
-use Rattle.client_world.specs.declared.place.Place.TheVariants.{Dos, Block, Host, Nothing}
-use Rattle.client_world.specs.declared.segments.SegReg.TheVariants.{Cs, Ss, Ds}
-use Rattle.client_world.specs.Access.{place_in, page_fault, fault_with, protected_base, real_base}
-use Rattle.client_world.specs.Descriptor.{packed, byte_limit, is_inside, plain}
-use Rattle.client_world.specs.Loading.{load_fault}
-use Rattle.client_world.specs.Selector.{Row, selector_of}
-use Rattle.client_world.specs.Soundness.{descriptors_for}
-use Rattle.client_world.specs.World.{MemoryBlock}
+use Rattle.client_world.specs.{declared.descriptors.Desc.{Desc}, declared.descriptors.Kind.TheVariants.{Data, Code}}
+use Rattle.client_world.specs.{declared.descriptors.Origin.TheVariants.{Own}, declared.memory_map.TheConstants.{HOST_WINDOW_END}}
+use Rattle.client_world.specs.{declared.place.Place.TheVariants.{Dos, Block, Host, Nothing}, declared.segments.SegReg.TheVariants.{Cs, Ss}}
+use Rattle.client_world.specs.{declared.segments.SegReg.TheVariants.{Ds}, Access.{place_in, page_fault, fault_with, protected_base}}
+use Rattle.client_world.specs.{Access.{real_base}, Descriptor.{packed, byte_limit, is_inside, plain}, Loading.{load_fault}, Selector.{Row}}
+use Rattle.client_world.specs.{Selector.{selector_of}, Soundness.{descriptors_for}, World.{MemoryBlock}}
 
 -- the host's code segment, and a stack of the client
 code_bytes : packed (plain Code 0xF0000 0xFFFF false) ≡ 0xFF ∷ 0xFF ∷ 0 ∷ 0 ∷ 0x0F ∷ 0xFB ∷ 0 ∷ 0 ∷ []

@@ -1,24 +1,30 @@
--- The flags image, read back.
-use Rattle.std.proofs.Common.{arith, ◌≡◌, ◌≤◌, ◌+◌, ◌*◌, ◌/◌, ◌%◌, ℕ, Bool, true, false, cond, nat_eq, refl, ◌∙◌, ap}
-use Rattle.client_world.specs.declared.registers.Flags.{Flags}
-use Rattle.client_world.specs.Registers.{flags_image, flags_of_image, has_bit}
+-- The flags image, read back, and that it is a word.
+use Rattle.std.proofs.Common.{arith, ◌≡◌, ◌≤◌, ◌<◌, ◌+◌, ◌*◌, ◌/◌, ◌%◌, ℕ, Bool, true, false, cond, nat_eq, refl, ◌∙◌, ap}
+use Rattle.client_world.specs.{declared.registers.Flags.{Flags}, Registers.{flags_image, flags_of_image, has_bit}}
 
 -- a flag as a number
-abbrev bit : Bool → ℕ
+abbrev pub bit : Bool → ℕ
 bit true = 1
 bit false = 0
 
-bit-most : (b : Bool) → bit b ≤ 1
+pub bit-most : (b : Bool) → bit b ≤ 1
 bit-most true = omega arith
 bit-most false = omega arith
 
-bit-is : (b : Bool) → nat_eq (bit b) 1 ≡ b
+pub bit-is : (b : Bool) → nat_eq (bit b) 1 ≡ b
 bit-is true = refl
 bit-is false = refl
 
-weight_of : (b : Bool) (w : ℕ) → cond b w 0 ≡ w * bit b
+pub weight_of : (b : Bool) (w : ℕ) → cond b w 0 ≡ w * bit b
 weight_of true w = omega arith
 weight_of false w = omega arith
+
+pub weight_fits : (b : Bool) (w : ℕ) → cond b w 0 ≤ w
+weight_fits true w = omega arith
+weight_fits false w = omega arith
+
+pub image_small : (f : Flags) (i : Bool) → flags_image f i < 0x10000
+image_small f i = grind (arith, weight_fits)
 
 -- the image as a sum of bits
 abbrev sum_of : ℕ → ℕ → ℕ → ℕ → ℕ → ℕ → ℕ → ℕ → ℕ
@@ -68,7 +74,7 @@ image_bits f i =
     (bits_of (bit f.cf) (bit f.pf) (bit f.af) (bit f.zf) (bit f.sf) (bit i) (bit f.df) (bit f.of)
     (bit-most f.cf) (bit-most f.pf) (bit-most f.af) (bit-most f.zf) (bit-most f.sf) (bit-most i) (bit-most f.df) (bit-most f.of))
 
-read : (x : ℕ) (b : Bool) → x ≡ bit b → nat_eq x 1 ≡ b
+pub read : (x : ℕ) (b : Bool) → x ≡ bit b → nat_eq x 1 ≡ b
 read x b is = ap (λ k. nat_eq k 1) is ∙ bit-is b
 
 same_flags : (f : Flags) (c p a z s d o : Bool) → c ≡ f.cf → p ≡ f.pf → a ≡ f.af → z ≡ f.zf → s ≡ f.sf →

@@ -1,5 +1,6 @@
 mod Examples
-mod FlagBits
+pub mod FlagBits
+pub mod NamedWords
 pub mod PlaceLaws
 pub mod SoundRows
 pub mod SoundWrites

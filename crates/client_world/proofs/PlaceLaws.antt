@@ -1,16 +1,12 @@
 -- Where linear addresses lie, what a write leaves as it was, and which places the client holds.
 use Rattle.std.proofs.Common.{◌≡◌, ℕ, zero, suc, ◌+◌, ◌-◌, ◌<◌, ◌≤◌, Bool, true, false, ◌&&◌, List, [], ◌∷◌, length, get_or, set, None}
-use Rattle.std.proofs.Common.{Some, refl, ap, ◌∙◌, sym, subst, arith, zero-add, add-zero, add-one}
-use Rattle.std.specs.Prelude.{nat_lt, nat_le, if◌then◌else◌, slice_index_or}
-use Rattle.std.specs.declared.option.Option.{Option}
-use Rattle.std.proofs.lemmas.List.{length-set}
+use Rattle.std.proofs.{Common.{Some, refl, ap, ◌∙◌, sym, subst, arith, zero-add, add-zero, add-one}, lemmas.List.{length-set}}
 use Rattle.std.proofs.lemmas.Bool.Decides.{nat_tests}
-use Rattle.client_world.specs.declared.place.Place.{Place}
-use Rattle.client_world.specs.declared.place.Place.TheVariants.{Dos, Block, Host, Nothing}
+use Rattle.std.specs.{Prelude.{nat_lt, nat_le, if◌then◌else◌, slice_index_or}, declared.option.Option.{Option}}
+use Rattle.client_world.specs.{declared.place.Place.{Place}, declared.place.Place.TheVariants.{Dos, Block, Host, Nothing}}
 use Rattle.client_world.specs.declared.memory_map.TheConstants.{DOS_VIEW_END, BLOCK_REGION, BLOCK_REGION_END, HOST_WINDOW, HOST_WINDOW_END}
 use Rattle.client_world.specs.Access.{dos_address, covers, block_place, place_in, HasByte, IsHeld, may_touch, with_block_byte, with_byte_of}
-use Rattle.client_world.specs.Access.{linear, places_from, first_forbidden}
-use Rattle.client_world.specs.World.{World, MemoryBlock, block_at}
+use Rattle.client_world.specs.{Access.{linear, places_from, first_forbidden}, World.{World, MemoryBlock, block_at}}
 
 -- what the tests of an address come to
 lt_yes : (a b : ℕ) → a < b → nat_lt a b ≡ true
@@ -170,7 +166,7 @@ held-place w l write h =
     of_block = held-block w w.blocks 0 l write (λ i. ap (λ (j : ℕ). get_or w.blocks j None) (sym (zero-add i)))
 
 -- no place is forbidden exactly where each may be touched
-allowed-both : (c : Bool) (rest : Option Place) (p : Place) → (if c then rest else Some p) ≡ None → (c ≡ true) × (rest ≡ None)
+pub allowed-both : (c : Bool) (rest : Option Place) (p : Place) → (if c then rest else Some p) ≡ None → (c ≡ true) × (rest ≡ None)
 allowed-both true rest p h = (refl, h)
 allowed-both false rest p h = absurd cc
 

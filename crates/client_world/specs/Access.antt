@@ -2,26 +2,18 @@
 -- Source: 80386 Programmer's Reference Manual, ch. 5, 6, 9 and 15; the memory map and the order of the refusals are own.
 use Rattle.std.specs.Prelude.{ℕ, ◌+◌, ◌-◌, ◌*◌, ◌%◌, ◌<◌, ◌^◌, ⊤, zero, suc, Bool, true, false, ◌&&◌, ◌||◌, not, nat_lt, nat_le}
 use Rattle.std.specs.Prelude.{if◌then◌else◌, cond, List, [], ◌∷◌, length, None, Some, Ok, Err, is_ok, slice_index, slice_set}
-use Rattle.std.specs.declared.option.Option.{Option}
-use Rattle.std.specs.declared.result.Result.{Result}
-use Rattle.client_world.specs.declared.registers.Mode.{Mode}
-use Rattle.client_world.specs.declared.registers.Mode.TheVariants.{Real, Protected}
-use Rattle.client_world.specs.declared.registers.Regs.{Regs}
-use Rattle.client_world.specs.declared.segments.SegReg.{SegReg}
-use Rattle.client_world.specs.declared.segments.SegReg.TheVariants.{Es, Cs, Ss, Ds, Fs, Gs}
-use Rattle.client_world.specs.declared.segments.FarPtr.{FarPtr}
-use Rattle.client_world.specs.declared.descriptors.Kind.{Kind}
-use Rattle.client_world.specs.declared.faults.Fault.{Fault}
+use Rattle.std.specs.{declared.option.Option.{Option}, declared.result.Result.{Result}}
+use Rattle.client_world.specs.{declared.registers.Mode.{Mode}, declared.registers.Mode.TheVariants.{Real, Protected}}
+use Rattle.client_world.specs.{declared.registers.Regs.{Regs}, declared.segments.SegReg.{SegReg}, declared.segments.SegReg.TheVariants.{Es}}
+use Rattle.client_world.specs.{declared.segments.SegReg.TheVariants.{Cs, Ss, Ds, Fs, Gs}, declared.segments.FarPtr.{FarPtr}}
+use Rattle.client_world.specs.{declared.descriptors.Kind.{Kind}, declared.faults.Fault.{Fault}}
 use Rattle.client_world.specs.declared.faults.TheConstants.{SEGMENT_NOT_PRESENT, STACK_EXCEPTION, GENERAL_PROTECTION, PAGE_FAULT}
-use Rattle.client_world.specs.declared.faults.TheConstants.{PROTECTION_CODE, WRITE_CODE, USER_CODE}
-use Rattle.client_world.specs.declared.place.Place.{Place}
+use Rattle.client_world.specs.{declared.faults.TheConstants.{PROTECTION_CODE, WRITE_CODE, USER_CODE}, declared.place.Place.{Place}}
 use Rattle.client_world.specs.declared.place.Place.TheVariants.{Dos, Block, Host, Nothing}
 use Rattle.client_world.specs.declared.memory_map.TheConstants.{PARAGRAPH_SIZE, SEGMENT_SIZE, DOS_SIZE, ROM_START, DOS_VIEW_END}
 use Rattle.client_world.specs.declared.memory_map.TheConstants.{BLOCK_REGION, BLOCK_REGION_END, HOST_WINDOW, HOST_WINDOW_END}
-use Rattle.client_world.specs.Descriptor.{is_code, is_writable, is_inside}
-use Rattle.client_world.specs.Segments.{selector}
-use Rattle.client_world.specs.Selector.{Row, is_null, row_of_selector, selector_code}
-use Rattle.client_world.specs.World.{World, MemoryBlock, block_at, with_block_at}
+use Rattle.client_world.specs.{Descriptor.{is_code, is_writable, is_inside}, Segments.{selector}, Selector.{Row, is_null, row_of_selector}}
+use Rattle.client_world.specs.{Selector.{selector_code}, World.{World, MemoryBlock, block_at, with_block_at}}
 
 -- the linear address of an offset in a real-mode segment (80386 Programmer's Reference Manual, ch. 15)
 abbrev pub linear_address : ℕ → ℕ → ℕ

@@ -1,6 +1,5 @@
 -- Code bytes as two words. Source: own.
-use Rattle.std.specs.Prelude.{ℕ, List, ◌++◌, drop}
-use Rattle.std.specs.Int.{w64, to_le_bytes}
+use Rattle.std.specs.{Prelude.{ℕ, List, ◌++◌, drop}, Int.{w64, to_le_bytes}}
 use Rattle.client_world.specs.declared.code.CodeWords.{CodeWords}
 
 -- the 15 bytes: byte 7 is in both words

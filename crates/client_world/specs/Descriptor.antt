@@ -2,8 +2,7 @@
 -- Source: 80386 Programmer's Reference Manual, ch. 5, "Descriptors", figure 5-3, and ch. 6, "Limit Checking".
 use Rattle.std.specs.Prelude.{◌≡◌, ◌≤◌, ◌<◌, ℕ, ◌+◌, ◌*◌, ◌/◌, ◌%◌, ◌^◌, Bool, true, false, List, [], ◌∷◌, if◌then◌else◌, cond, MatchBool}
 use Rattle.std.specs.Prelude.{◌&&◌, nat_lt, nat_le}
-use Rattle.client_world.specs.declared.descriptors.Kind.{Kind}
-use Rattle.client_world.specs.declared.descriptors.Kind.TheVariants.{Data, Code}
+use Rattle.client_world.specs.{declared.descriptors.Kind.{Kind}, declared.descriptors.Kind.TheVariants.{Data, Code}}
 use Rattle.client_world.specs.declared.descriptors.Desc.{Desc}
 
 -- the field values fit the descriptor: 32 bits of base, 20 of limit

@@ -1,9 +1,7 @@
 -- The arena of DOS memory: which lists of entries are one. Source: own.
 use Rattle.std.specs.Prelude.{◌≡◌, ℕ, ◌+◌, Bool, true, false, List, [], ◌∷◌}
-use Rattle.client_world.specs.declared.dos_memory.DosState.{DosState}
-use Rattle.client_world.specs.declared.dos_memory.DosState.TheVariants.{Free, Used, Dpmi}
-use Rattle.client_world.specs.declared.dos_memory.DosEntry.{DosEntry}
-use Rattle.client_world.specs.declared.memory_map.TheConstants.{ARENA_START, ARENA_END}
+use Rattle.client_world.specs.{declared.dos_memory.DosState.{DosState}, declared.dos_memory.DosState.TheVariants.{Free, Used, Dpmi}}
+use Rattle.client_world.specs.{declared.dos_memory.DosEntry.{DosEntry}, declared.memory_map.TheConstants.{ARENA_START, ARENA_END}}
 
 abbrev pub is_free : DosState → Bool
 is_free Free = true

@@ -1,7 +1,6 @@
 -- Runs of free indices of the client's table. Source: DPMI 0.9, INT 31h function 0000h; that runs are sought from index 64 on is own.
 use Rattle.std.specs.Prelude.{◌≡◌, ℕ, ◌+◌, ◌<◌, ◌≤◌, List, None}
-use Rattle.client_world.specs.declared.host_frames.TheConstants.{DESCRIPTORS, FIRST_FREE_DESCRIPTOR}
-use Rattle.client_world.specs.Selector.{Row, row_at_index}
+use Rattle.client_world.specs.{declared.host_frames.TheConstants.{DESCRIPTORS, FIRST_FREE_DESCRIPTOR}, Selector.{Row, row_at_index}}
 
 -- the n indices from one on are there and free
 pub record IsFreeRunOf (rows : List Row) (first n : ℕ) : Type 0 where

@@ -1,7 +1,6 @@
 -- The general registers by their numbers. Source: 80386 Programmer's Reference Manual, ch. 2, "General Registers", and ch. 17, "reg".
 use Rattle.std.specs.Prelude.{ℕ, nat_eq, if◌then◌else◌}
-use Rattle.client_world.specs.declared.general.TheConstants.{EAX, ECX, EDX, EBX, ESP, EBP, ESI}
-use Rattle.client_world.specs.declared.registers.Regs.{Regs}
+use Rattle.client_world.specs.{declared.general.TheConstants.{EAX, ECX, EDX, EBX, ESP, EBP, ESI}, declared.registers.Regs.{Regs}}
 
 -- what the general register of a number 0 to 7 holds; greater numbers are EDI
 unfoldable pub general : Regs → ℕ → ℕ

@@ -2,17 +2,12 @@
 -- Source: 80386 Programmer's Reference Manual, ch. 17, MOV, JMP and RET, and ch. 9; the order of the refusals is own.
 use Rattle.std.specs.Prelude.{ℕ, Bool, ◌&&◌, ◌||◌, not, nat_eq, nat_lt, if◌then◌else◌, List, None, Some, is_none, false}
 use Rattle.std.specs.declared.option.Option.{Option}
-use Rattle.client_world.specs.declared.registers.Mode.TheVariants.{Real, Protected}
-use Rattle.client_world.specs.declared.segments.SegReg.{SegReg}
-use Rattle.client_world.specs.declared.segments.SegReg.TheVariants.{Es, Cs, Ss, Ds, Fs, Gs}
-use Rattle.client_world.specs.declared.faults.Fault.{Fault}
+use Rattle.client_world.specs.{declared.registers.Mode.TheVariants.{Real, Protected}, declared.segments.SegReg.{SegReg}}
+use Rattle.client_world.specs.{declared.segments.SegReg.TheVariants.{Es, Cs, Ss, Ds, Fs, Gs}, declared.faults.Fault.{Fault}}
 use Rattle.client_world.specs.declared.faults.TheConstants.{SEGMENT_NOT_PRESENT, STACK_EXCEPTION, GENERAL_PROTECTION}
-use Rattle.client_world.specs.declared.memory_map.TheConstants.{SEGMENT_SIZE}
-use Rattle.client_world.specs.declared.selectors.TheConstants.{CLIENT_PRIVILEGE}
-use Rattle.client_world.specs.Access.{fault_with}
-use Rattle.client_world.specs.Descriptor.{is_code, is_writable, is_inside}
-use Rattle.client_world.specs.Selector.{Row, is_null, privilege_of, row_of_selector, selector_code}
-use Rattle.client_world.specs.World.{World}
+use Rattle.client_world.specs.{declared.memory_map.TheConstants.{SEGMENT_SIZE}, declared.selectors.TheConstants.{CLIENT_PRIVILEGE}}
+use Rattle.client_world.specs.{Access.{fault_with}, Descriptor.{is_code, is_writable, is_inside}, Selector.{Row, is_null, privilege_of}}
+use Rattle.client_world.specs.{Selector.{row_of_selector, selector_code}, World.{World}}
 
 -- the privilege level that the selector asks for isn't the client's
 abbrev pub is_privileged : ℕ → Bool

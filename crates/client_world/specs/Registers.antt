@@ -1,9 +1,8 @@
 -- The flags image, and the parts of a general register.
 -- Source: 80386 Programmer's Reference Manual, ch. 2, "Registers" and "EFLAGS".
 use Rattle.std.specs.Prelude.{ℕ, ◌+◌, ◌*◌, ◌/◌, ◌%◌, Bool, nat_eq, cond}
-use Rattle.client_world.specs.declared.registers.Flags.{Flags}
-use Rattle.client_world.specs.declared.registers.TheConstants.{FIXED_BIT, CARRY_BIT, PARITY_BIT, ADJUST_BIT, ZERO_BIT, SIGN_BIT}
-use Rattle.client_world.specs.declared.registers.TheConstants.{INTERRUPT_BIT, DIRECTION_BIT, OVERFLOW_BIT}
+use Rattle.client_world.specs.{declared.registers.Flags.{Flags}, declared.registers.TheConstants.{FIXED_BIT, CARRY_BIT, PARITY_BIT}}
+use Rattle.client_world.specs.declared.registers.TheConstants.{ADJUST_BIT, ZERO_BIT, SIGN_BIT, INTERRUPT_BIT, DIRECTION_BIT, OVERFLOW_BIT}
 
 -- the 16-bit image of the flags, with the given interrupt flag
 abbrev pub flags_image : Flags → Bool → ℕ

@@ -1,9 +1,7 @@
 -- What the segment registers hold, and the null pointer.
 -- Source: 80386 Programmer's Reference Manual, ch. 2, "Segment Registers".
 use Rattle.std.specs.Prelude.{ℕ}
-use Rattle.client_world.specs.declared.registers.Regs.{Regs}
-use Rattle.client_world.specs.declared.segments.FarPtr.{FarPtr}
-use Rattle.client_world.specs.declared.segments.SegReg.{SegReg}
+use Rattle.client_world.specs.{declared.registers.Regs.{Regs}, declared.segments.FarPtr.{FarPtr}, declared.segments.SegReg.{SegReg}}
 use Rattle.client_world.specs.declared.segments.SegReg.TheVariants.{Es, Cs, Ss, Ds, Fs, Gs}
 
 -- what a segment register holds: a selector, or in real mode a segment

@@ -2,8 +2,7 @@
 -- Source: 80386 Programmer's Reference Manual, ch. 5, "Selectors", figure 5-6.
 use Rattle.std.specs.Prelude.{⊤, ℕ, ◌+◌, ◌-◌, ◌*◌, ◌/◌, ◌%◌, Bool, List, None, Some, nat_eq, nat_lt, if◌then◌else◌, slice_index_or}
 use Rattle.std.specs.declared.option.Option.{Option}
-use Rattle.client_world.specs.declared.descriptors.Desc.{Desc}
-use Rattle.client_world.specs.declared.descriptors.Origin.{Origin}
+use Rattle.client_world.specs.{declared.descriptors.Desc.{Desc}, declared.descriptors.Origin.{Origin}}
 use Rattle.client_world.specs.declared.selectors.TheConstants.{CLIENT_PRIVILEGE, SELECTOR_STEP, SELECTOR_BITS}
 use Rattle.client_world.specs.Descriptor.{FitsDescriptor}
 

@@ -1,26 +1,19 @@
 -- What is true of every world that is reached. Each part of the world has its own conditions. Source: own.
 use Rattle.std.specs.Prelude.{◌≡◌, ◌≢◌, ⊤, ℕ, ◌+◌, ◌-◌, ◌*◌, ◌/◌, ◌%◌, ◌<◌, ◌≤◌, ◌⊎◌, Bool, true, false, List, [], ◌∷◌, length, None, Some}
-use Rattle.std.specs.Prelude.{slice_index, slice_index_or, slice_get}
-use Rattle.std.specs.declared.option.Option.{Option}
-use Rattle.client_world.specs.declared.registers.Mode.TheVariants.{Real}
-use Rattle.client_world.specs.declared.registers.Regs.{Regs}
-use Rattle.client_world.specs.declared.registers.Width.{Width}
-use Rattle.client_world.specs.declared.registers.Width.TheVariants.{Sixteen, ThirtyTwo}
-use Rattle.client_world.specs.declared.descriptors.Desc.{Desc}
-use Rattle.client_world.specs.declared.descriptors.Kind.TheVariants.{Data, Code}
-use Rattle.client_world.specs.declared.descriptors.Origin.{Origin}
+use Rattle.std.specs.{Prelude.{slice_index, slice_index_or, slice_get}, declared.option.Option.{Option}}
+use Rattle.client_world.specs.{declared.registers.Mode.TheVariants.{Real}, declared.registers.Regs.{Regs}, declared.registers.Width.{Width}}
+use Rattle.client_world.specs.{declared.registers.Width.TheVariants.{Sixteen, ThirtyTwo}, declared.descriptors.Desc.{Desc}}
+use Rattle.client_world.specs.{declared.descriptors.Kind.TheVariants.{Data, Code}, declared.descriptors.Origin.{Origin}}
 use Rattle.client_world.specs.declared.descriptors.Origin.TheVariants.{Own, Low, Entry, Psp, Segment, Dos, Host}
-use Rattle.client_world.specs.declared.dos_memory.DosEntry.{DosEntry}
-use Rattle.client_world.specs.declared.host_frames.TheConstants.{PAGE_SIZE, DESCRIPTORS, FIRST_FREE_DESCRIPTOR}
-use Rattle.client_world.specs.declared.limits.TheConstants.{MAX_BLOCKS, GREATEST_LOCK_COUNT, GREATEST_DEPTH, CALLBACKS, INTERRUPT_VECTORS}
-use Rattle.client_world.specs.declared.limits.TheConstants.{EXCEPTION_VECTORS}
-use Rattle.client_world.specs.declared.memory_map.TheConstants.{DOS_SIZE, DOS_VIEW_PAGES, ROM_START, ROM_BYTE, BLOCK_REGION}
-use Rattle.client_world.specs.declared.memory_map.TheConstants.{BLOCK_REGION_END, PROTECTED_STACKS, PROTECTED_STACK_SIZE}
-use Rattle.client_world.specs.declared.selectors.TheConstants.{HOST_CODE, HOST_STACKS, CALLBACK_STACKS}
-use Rattle.client_world.specs.Descriptor.{plain}
-use Rattle.client_world.specs.DosMemory.{IsArena, is_dpmi, block_segment}
-use Rattle.client_world.specs.Selector.{Row, FitsRow, row_at_index}
-use Rattle.client_world.specs.World.{World, HostWorld, MemoryBlock, block_at}
+use Rattle.client_world.specs.{declared.dos_memory.DosEntry.{DosEntry}, declared.host_frames.TheConstants.{PAGE_SIZE, DESCRIPTORS}}
+use Rattle.client_world.specs.{declared.host_frames.TheConstants.{FIRST_FREE_DESCRIPTOR}, declared.limits.TheConstants.{MAX_BLOCKS}}
+use Rattle.client_world.specs.declared.limits.TheConstants.{GREATEST_LOCK_COUNT, GREATEST_DEPTH, CALLBACKS, INTERRUPT_VECTORS}
+use Rattle.client_world.specs.{declared.limits.TheConstants.{EXCEPTION_VECTORS}, declared.memory_map.TheConstants.{DOS_SIZE}}
+use Rattle.client_world.specs.declared.memory_map.TheConstants.{DOS_VIEW_PAGES, ROM_START, ROM_BYTE, BLOCK_REGION, BLOCK_REGION_END}
+use Rattle.client_world.specs.declared.memory_map.TheConstants.{PROTECTED_STACKS, PROTECTED_STACK_SIZE}
+use Rattle.client_world.specs.{declared.selectors.TheConstants.{HOST_CODE, HOST_STACKS, CALLBACK_STACKS}, Descriptor.{plain}}
+use Rattle.client_world.specs.{DosMemory.{IsArena, is_dpmi, block_segment}, Selector.{Row, FitsRow, row_at_index}, World.{World, HostWorld}}
+use Rattle.client_world.specs.World.{MemoryBlock, block_at}
 
 -- each segment register holds a word
 pub record HasSegments (r : Regs) : Type 0 where

@@ -1,8 +1,6 @@
 -- The world of a client that has watchpoints. Source: own.
-use Rattle.std.specs.Prelude.{List, [], ◌∷◌, Bool, false, None}
-use Rattle.std.specs.declared.option.Option.{Option}
-use Rattle.client_world.specs.declared.watchpoints.Watch.{Watch}
-use Rattle.client_world.specs.World.{HostWorld}
+use Rattle.std.specs.{Prelude.{List, [], ◌∷◌, Bool, false, None}, declared.option.Option.{Option}}
+use Rattle.client_world.specs.{declared.watchpoints.Watch.{Watch}, World.{HostWorld}}
 
 -- the watchpoints, the one of handle h at place h - 1 of 16; and whether a hit is still to be told to the client
 pub record Watching : Type 0 where

@@ -1,15 +1,8 @@
 -- The state of a run, as the definitions see it. Source: own.
-use Rattle.std.specs.Prelude.{ℕ, zero, suc, List, Bool, length, slice_index_or, slice_set, None, Some}
-use Rattle.std.specs.declared.option.Option.{Option}
-use Rattle.client_world.specs.declared.registers.Mode.{Mode}
-use Rattle.client_world.specs.declared.registers.Regs.{Regs}
-use Rattle.client_world.specs.declared.registers.Width.{Width}
-use Rattle.client_world.specs.declared.segments.FarPtr.{FarPtr}
-use Rattle.client_world.specs.declared.dos_memory.DosEntry.{DosEntry}
-use Rattle.client_world.specs.declared.calls.Record.{Record}
-use Rattle.client_world.specs.declared.trace.TraceLine.{TraceLine}
-use Rattle.client_world.specs.declared.outcome.Exit.{Exit}
-use Rattle.client_world.specs.Selector.{Row}
+use Rattle.std.specs.{Prelude.{ℕ, zero, suc, List, Bool, length, slice_index_or, slice_set, None, Some}, declared.option.Option.{Option}}
+use Rattle.client_world.specs.{declared.registers.Mode.{Mode}, declared.registers.Regs.{Regs}, declared.registers.Width.{Width}}
+use Rattle.client_world.specs.{declared.segments.FarPtr.{FarPtr}, declared.dos_memory.DosEntry.{DosEntry}, declared.calls.Record.{Record}}
+use Rattle.client_world.specs.{declared.trace.TraceLine.{TraceLine}, declared.outcome.Exit.{Exit}, Selector.{Row}}
 
 -- a memory block: its linear address, its bytes, and a lock count for each of its pages
 pub record MemoryBlock : Type 0 where

@@ -1,10 +1,8 @@
 // Segment descriptors of the client.
 ghost use Rattle.std.specs.Prelude.{◌≡◌, ◌≢◌, ◌<◌, ◌^◌, ℕ, true, None, slice_set};
-ghost use Rattle.client_world.specs.declared.host_frames.TheConstants.{DESCRIPTORS};
-ghost use Rattle.client_world.specs.Descriptor.{IsInside, byte_limit, expands_down, is_code, is_inside, is_writable, plain};
-ghost use Rattle.client_world.specs.Selector.{Row, FitsRow, row_at_index};
-ghost use Rattle.client_world.specs.Soundness.{IsSound, IsOfDosBlock, IsPlainRow, IsClientsIndex};
-ghost use Rattle.client_world.specs.World.{World};
+ghost use Rattle.client_world.specs.{declared.host_frames.TheConstants.{DESCRIPTORS}, Descriptor.{IsInside, byte_limit, expands_down}};
+ghost use Rattle.client_world.specs.{Descriptor.{is_code, is_inside, is_writable, plain}, Selector.{Row, FitsRow, row_at_index}};
+ghost use Rattle.client_world.specs.{Soundness.{IsSound, IsOfDosBlock, IsPlainRow, IsClientsIndex}, World.{World}};
 
 /// What a segment holds. Source: 80386 Programmer's Reference Manual, ch. 6, "Type Checking", table 6-1.
 #[derive(Clone, Copy, Debug, PartialEq, Eq)]

@@ -1,7 +1,9 @@
 //! The frames of physical memory, and what lies in those of the host. Source: own.
 
-use crate::limits::{GREATEST_DEPTH, MAX_BLOCKS, MAX_PAGES};
-use crate::memory_map::{ARENA_END, ARENA_START, BLOCK_REGION_PAGES, DOS_SIZE};
+use crate::limits::{
+    CALLBACKS, EXCEPTION_VECTORS, GREATEST_DEPTH, INTERRUPT_VECTORS, MAX_BLOCKS, MAX_PAGES,
+};
+use crate::memory_map::{ARENA_END, ARENA_START, BLOCK_REGION_PAGES, DOS_SIZE, DOS_VIEW_PAGES};
 
 /// The bytes of a frame and of a page. Source: 80386 Programmer's Reference Manual, ch. 5, "Page Translation".
 pub const PAGE_SIZE: u32 = 4096;
@@ -57,6 +59,18 @@ pub const CALLBACK_SIZE: u32 = 16;
 
 /// The frames of these four lists.
 pub const VECTOR_FRAMES: u32 = 1;
+
+/// Where the exception vectors begin in that frame, which begins with the protected-mode vectors.
+pub const EXCEPTIONS_START: u32 = VECTOR_SIZE * INTERRUPT_VECTORS;
+
+/// Where the callbacks begin in it.
+pub const CALLBACKS_START: u32 = EXCEPTIONS_START + VECTOR_SIZE * EXCEPTION_VECTORS;
+
+/// Where the pageable pages begin in it, a byte for each page of the DOS megabyte's view.
+pub const PAGEABLE_START: u32 = CALLBACKS_START + CALLBACK_SIZE * CALLBACKS;
+
+/// Where the head of the list of free frames is in it, a doubleword.
+pub const FREE_HEAD_START: u32 = PAGEABLE_START + DOS_VIEW_PAGES;
 
 /// The first frame of the records of calls.
 pub const RECORDS: u32 = VECTORS + VECTOR_FRAMES;

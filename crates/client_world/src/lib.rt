@@ -36,7 +36,7 @@ pub use outcome::{Exit, LoadFault};
 pub use place::Place;
 pub use registers::{
     Flags, Mode, Regs, Width, a_flags_image_gives_its_flags_back, high_byte, high_half,
-    is_interrupt_set, low_byte, low_half, with_low_byte, with_low_half,
+    is_interrupt_set, is_set, low_byte, low_half, weight, with_low_byte, with_low_half,
 };
 pub use segments::{FarPtr, SegReg};
 pub use services::{Begun, Carry, DosDone, by_width, two_words};

@@ -1,9 +1,7 @@
 // The mode, the flags and the registers of the processor.
 ghost use Rattle.std.specs.Prelude.{◌≡◌, ◌≤◌, ◌<◌, ◌/◌, Bool, cond};
-ghost use Rattle.client_world.specs.General.{general, with_general};
-ghost use Rattle.client_world.specs.Registers.{flags_image, flags_of_image, has_bit, high_byte, low_byte, low_half, with_low_byte};
-ghost use Rattle.client_world.specs.Registers.{with_low_half};
-ghost use Rattle.client_world.specs.Segments.{selector, with_selector};
+ghost use Rattle.client_world.specs.{General.{general, with_general}, Registers.{flags_image, flags_of_image, has_bit, high_byte}};
+ghost use Rattle.client_world.specs.{Registers.{low_byte, low_half, with_low_byte, with_low_half}, Segments.{selector, with_selector}};
 
 use crate::general::{EAX, EBP, EBX, ECX, EDX, ESI, ESP};
 use crate::segments::SegReg;
@@ -26,31 +24,31 @@ pub enum Width {
 // The bits of the flags image. Source: 80386 Programmer's Reference Manual, ch. 2, EFLAGS.
 
 /// The bit that is always set.
-pub const FIXED_BIT: u16 = 0x0002;
+pub const FIXED_BIT: u32 = 0x0002;
 
 /// The bit of the carry flag, CF.
-pub const CARRY_BIT: u16 = 0x0001;
+pub const CARRY_BIT: u32 = 0x0001;
 
 /// The bit of the parity flag, PF.
-pub const PARITY_BIT: u16 = 0x0004;
+pub const PARITY_BIT: u32 = 0x0004;
 
 /// The bit of the adjust flag, AF.
-pub const ADJUST_BIT: u16 = 0x0010;
+pub const ADJUST_BIT: u32 = 0x0010;
 
 /// The bit of the zero flag, ZF.
-pub const ZERO_BIT: u16 = 0x0040;
+pub const ZERO_BIT: u32 = 0x0040;
 
 /// The bit of the sign flag, SF.
-pub const SIGN_BIT: u16 = 0x0080;
+pub const SIGN_BIT: u32 = 0x0080;
 
 /// The bit of the interrupt flag, IF.
-pub const INTERRUPT_BIT: u16 = 0x0200;
+pub const INTERRUPT_BIT: u32 = 0x0200;
 
 /// The bit of the direction flag, DF.
-pub const DIRECTION_BIT: u16 = 0x0400;
+pub const DIRECTION_BIT: u32 = 0x0400;
 
 /// The bit of the overflow flag, OF.
-pub const OVERFLOW_BIT: u16 = 0x0800;
+pub const OVERFLOW_BIT: u32 = 0x0800;
 
 /// The flags that instructions see. The virtual interrupt flag is kept apart; TF and NT always read 0.
 #[derive(Clone, Copy, Debug, PartialEq, Eq)]
@@ -81,7 +79,7 @@ impl Flags {
     pub fn image(self, interrupt: bool) -> u16
         ensures { result ≡ flags_image self interrupt }
     {
-        FIXED_BIT
+        let image = FIXED_BIT
             + weight(self.cf, CARRY_BIT)
             + weight(self.pf, PARITY_BIT)
             + weight(self.af, ADJUST_BIT)
@@ -89,7 +87,8 @@ impl Flags {
             + weight(self.sf, SIGN_BIT)
             + weight(interrupt, INTERRUPT_BIT)
             + weight(self.df, DIRECTION_BIT)
-            + weight(self.of, OVERFLOW_BIT)
+            + weight(self.of, OVERFLOW_BIT);
+        image as u16
     }
 
     /// The flags of a 16-bit image; its interrupt flag is asked for with `is_interrupt_set`. Source: 80386 Programmer's Reference Manual,
@@ -97,6 +96,7 @@ impl Flags {
     pub fn from_image(image: u16) -> Flags
         ensures { result ≡ flags_of_image image }
     {
+        let image = u32::from(image);
         Flags {
             cf: is_set(image, CARRY_BIT),
             pf: is_set(image, PARITY_BIT),
@@ -113,23 +113,25 @@ impl Flags {
 pub fn is_interrupt_set(image: u16) -> bool
     ensures { result ≡ has_bit image INTERRUPT_BIT }
 {
-    is_set(image, INTERRUPT_BIT)
+    is_set(u32::from(image), INTERRUPT_BIT)
 }
 
-// A bit's value where the flag is set, else 0.
-fn weight(flag: bool, bit: u16) -> u16
+/// A bit's value where the flag is set, else 0. Source: own.
+#[inline(always)]
+pub fn weight(flag: bool, bit: u32) -> u32
     ensures value { result ≡ cond flag bit 0 }
     ensures most { result ≤ bit }
 {
     if flag { bit } else { 0 }
 }
 
-// Whether the bit of that value is set in an image.
-fn is_set(image: u16, bit: u16) -> bool
+/// Whether the bit of that value is set in a number. Source: own.
+#[inline(always)]
+pub fn is_set(number: u32, bit: u32) -> bool
     requires { 0 < bit }
-    ensures { result ≡ has_bit image bit }
+    ensures { result ≡ has_bit number bit }
 {
-    image / bit % 2 == 1
+    number / bit % 2 == 1
 }
 
 /// The registers of the processor. In real mode the segment registers hold real segments.

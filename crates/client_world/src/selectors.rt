@@ -1,7 +1,7 @@
 //! Selectors, and the descriptors that the host makes. Source: own, but for the form of a selector.
 ghost use Rattle.std.specs.Prelude.{◌≡◌, ◌<◌};
-ghost use Rattle.client_world.specs.declared.host_frames.TheConstants.{DESCRIPTORS};
-ghost use Rattle.client_world.specs.Selector.{client_selector, index_of, is_local, is_null, privilege_of, selector_code, selector_of};
+ghost use Rattle.client_world.specs.{declared.host_frames.TheConstants.{DESCRIPTORS}, Selector.{client_selector, index_of, is_local}};
+ghost use Rattle.client_world.specs.Selector.{is_null, privilege_of, selector_code, selector_of};
 
 use crate::host_frames::DESCRIPTORS;
 

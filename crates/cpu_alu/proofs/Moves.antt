@@ -1,14 +1,11 @@
 -- Single bits moved n times, in one formula for all n: a word and the carry flag are one number of w + 1 bits.
-use Rattle.std.proofs.Common.{◌≡◌, refl, sym, arith, inl, inr, add-one}
+use Rattle.std.proofs.{Common.{◌≡◌, refl, sym, arith, inl, inr, add-one}, lemmas.Bool.Decides.{nat_tests}, lemmas.Bool.{le-leb, lt-leb}}
+use Rattle.std.proofs.{lemmas.Bool.{cases_lt}, lemmas.Nat.{shr-shr, shr_le, mul-mod_second, mod-mul-add, div-mul-add}, Math.Nat.{pow-suc}}
+use Rattle.std.proofs.Math.Nat.{add-zero, mul_assoc, mul_comm, div-one, mul-one}
 use Rattle.std.specs.Prelude.{ℕ, zero, suc, ◌+◌, ◌-◌, ◌*◌, ◌/◌, ◌%◌, ◌^◌, ◌<◌, ◌≤◌, Bool, true, false}
-use Rattle.std.proofs.lemmas.Bool.Decides.{nat_tests}
-use Rattle.std.proofs.lemmas.Bool.{le-leb, lt-leb, cases_lt}
-use Rattle.std.proofs.lemmas.Nat.{shr-shr, shr_le, mul-mod_second, mod-mul-add, div-mul-add}
-use Rattle.std.proofs.Math.Nat.{pow-suc, add-zero, mul_assoc, mul_comm, div-one, mul-one}
 use Rattle.cpu_values.specs.Word.{IsWidth}
-use Rattle.cpu_alu.specs.Results.{bit_of, low_bit, top_bit}
-use Rattle.cpu_alu.specs.Shifts.{bits_moved, shl_bit, shr_bit, sar_bit}
-use Rattle.cpu_alu.specs.Packed.{carry_below, from_below, carry_above, from_above, sign_shifted}
+use Rattle.cpu_alu.specs.{Results.{bit_of, low_bit, top_bit}, Shifts.{bits_moved, shl_bit, shr_bit, sar_bit}, Packed.{carry_below}}
+use Rattle.cpu_alu.specs.Packed.{from_below, carry_above, from_above, sign_shifted}
 
 -- half of a number that was halved n times
 halved : (v n : ℕ) → v / 2 ^ suc n ≡ v / 2 ^ n / 2

@@ -1,16 +1,13 @@
 -- Rotates: n single bits moved are a number turned in one step, of w bits, or of w + 1 with the carry flag above the word.
-use Rattle.std.proofs.Common.{◌≡◌, refl, sym, ap, ◌∙◌, arith, inl, inr, add-one}
-use Rattle.std.specs.Prelude.{ℕ, zero, suc, ◌+◌, ◌-◌, ◌*◌, ◌/◌, ◌%◌, ◌^◌, ◌<◌, ◌≤◌, Bool, true, false, if◌then◌else◌}
-use Rattle.std.proofs.lemmas.Bool.{cases_lt}
-use Rattle.std.proofs.lemmas.Nat.{mod_below}
+use Rattle.std.proofs.{Common.{◌≡◌, refl, sym, ap, ◌∙◌, arith, inl, inr, add-one}, lemmas.Bool.{cases_lt}, lemmas.Nat.{mod_below}}
 use Rattle.std.proofs.Math.Nat.{zero-mod, pow-suc, mul_comm, add-zero, mod-eq_of_lt, div-eq_of_lt}
+use Rattle.std.specs.Prelude.{ℕ, zero, suc, ◌+◌, ◌-◌, ◌*◌, ◌/◌, ◌%◌, ◌^◌, ◌<◌, ◌≤◌, Bool, true, false, if◌then◌else◌}
 use Rattle.cpu_values.specs.Word.{IsWidth}
-use Rattle.cpu_alu.specs.Results.{low_bit, top_bit}
-use Rattle.cpu_alu.specs.Shifts.{Moved, bits_moved, rol_bit, ror_bit, rcl_bit, rcr_bit}
-use Rattle.cpu_alu.specs.Packed.{carry_above, from_above, turned}
-use Rattle.cpu_alu.proofs.Moves.{from_above-carry_above, half_modulus, top_bit-above}
-use Rattle.cpu_alu.proofs.Turns.{left_once, right_once, mod_past, div_past, left_once-low, left_once-high, right_once-left_once}
-use Rattle.cpu_alu.proofs.Turns.{low_bit-left_once, turned_below_all, turned-zero, turned-all, left_once-turned_mod, turned_back}
+use Rattle.cpu_alu.specs.{Results.{low_bit, top_bit}, Shifts.{Moved, bits_moved, rol_bit, ror_bit, rcl_bit, rcr_bit}, Packed.{carry_above}}
+use Rattle.cpu_alu.specs.Packed.{from_above, turned}
+use Rattle.cpu_alu.proofs.{Moves.{from_above-carry_above, half_modulus, top_bit-above}, Turns.{left_once, right_once, mod_past, div_past}}
+use Rattle.cpu_alu.proofs.Turns.{left_once-low, left_once-high, right_once-left_once, low_bit-left_once, turned_below_all, turned-zero}
+use Rattle.cpu_alu.proofs.Turns.{turned-all, left_once-turned_mod, turned_back}
 
 -- two pairs of equal parts
 pair-eq : {a b : ℕ} {c d : Bool} → a ≡ b → c ≡ d → ◌≡◌ {A = Moved} (a, c) (b, d)

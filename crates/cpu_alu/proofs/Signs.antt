@@ -1,10 +1,9 @@
 -- Bits of sums by XOR and AND.
 use Rattle.std.proofs.Common.{◌≡◌, ℕ, ◌+◌, ◌-◌, ◌/◌, ◌%◌, ◌^◌, ◌<◌, ◌&&◌, ◌∙◌, ap, arith, rules, inl, inr, nat_eq, nat_le, nat_lt}
-use Rattle.std.specs.Int.Bits.{bit_and, bit_xor}
 use Rattle.std.proofs.lemmas.Nat.Bits.{bit_at_and, bit_at_xor}
+use Rattle.std.specs.Int.Bits.{bit_and, bit_xor}
 use Rattle.cpu_values.specs.Word.{IsWidth, cut}
-use Rattle.cpu_alu.specs.Results.{low_bit}
-use Rattle.cpu_alu.specs.Sums.{word_sum}
+use Rattle.cpu_alu.specs.{Results.{low_bit}, Sums.{word_sum}}
 
 pub odd_above : (a b r : ℕ) → low_bit (bit_xor (bit_xor a b) r / 0x10) ≡ low_bit (a / 0x10 + b / 0x10 + r / 0x10)
 odd_above a b r = ap (λ (x : ℕ). nat_eq x 1) (omega (arith, bit_at_xor (bit_xor a b) r 4, bit_at_xor a b 4))

@@ -1,12 +1,10 @@
 -- Rotates by n bits: a number turned in one step is what n single bits make of it.
-use Rattle.std.proofs.Common.{◌≡◌, refl, sym, ap, ◌∙◌, arith, inl, inr}
+use Rattle.std.proofs.{Common.{◌≡◌, refl, sym, ap, ◌∙◌, arith, inl, inr}, lemmas.Bool.{le-leb, lt-leb, cases_lt}, lemmas.Nat.{pow_pos}}
+use Rattle.std.proofs.{lemmas.Nat.{pow-add, mod-mul-add, div-mul-add, mul-add-lt, div_below, mod_below}, Math.Nat.{pow-suc, add-zero}}
+use Rattle.std.proofs.Math.Nat.{div-one, mod-one, mod-eq_of_lt, div-eq_of_lt, div-add-mod, suc-mod, mod_self}
 use Rattle.std.specs.Prelude.{ℕ, suc, ◌+◌, ◌-◌, ◌*◌, ◌/◌, ◌%◌, ◌^◌, ◌<◌, ◌≤◌, ◌⊎◌, if◌then◌else◌}
-use Rattle.std.proofs.lemmas.Bool.{le-leb, lt-leb, cases_lt}
-use Rattle.std.proofs.lemmas.Nat.{pow_pos, pow-add, mod-mul-add, div-mul-add, mul-add-lt, div_below, mod_below}
-use Rattle.std.proofs.Math.Nat.{pow-suc, add-zero, div-one, mod-one, mod-eq_of_lt, div-eq_of_lt, div-add-mod, suc-mod, mod_self}
 use Rattle.cpu_values.specs.Word.{cut}
-use Rattle.cpu_alu.specs.Results.{bit_of, low_bit, top_bit}
-use Rattle.cpu_alu.specs.Packed.{turned}
+use Rattle.cpu_alu.specs.{Results.{bit_of, low_bit, top_bit}, Packed.{turned}}
 
 -- a number of k bits turned by one bit to the left
 abbrev pub left_once : ℕ → ℕ → ℕ

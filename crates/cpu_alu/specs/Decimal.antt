@@ -3,8 +3,7 @@
 -- and DAS's further carry (the manual's text tests the changed AL against 9Fh), the changes of AL and AH by AAA and AAS, bases
 -- other than 10, and that flags which the manual leaves undefined are kept.
 use Rattle.std.specs.Prelude.{ℕ, ◌+◌, ◌-◌, ◌*◌, ◌/◌, ◌%◌, Bool, nat_eq, nat_lt, ◌||◌, ◌&&◌, if◌then◌else◌, Option, Some, None}
-use Rattle.client_world.specs.declared.registers.Flags.{Flags}
-use Rattle.client_world.specs.Registers.{low_byte}
+use Rattle.client_world.specs.{declared.registers.Flags.{Flags}, Registers.{low_byte}}
 use Rattle.cpu_alu.specs.Results.{result_flags}
 
 -- AH, the high byte of AX; AL is its low byte

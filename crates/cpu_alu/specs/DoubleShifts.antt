@@ -4,8 +4,7 @@
 use Rattle.std.specs.Prelude.{ℕ, ◌+◌, ◌-◌, ◌*◌, ◌/◌, ◌^◌, Bool, nat_eq, nat_le, ◌||◌, if◌then◌else◌}
 use Rattle.client_world.specs.declared.registers.Flags.{Flags}
 use Rattle.cpu_values.specs.Word.{cut}
-use Rattle.cpu_alu.specs.Results.{low_bit, result_flags}
-use Rattle.cpu_alu.specs.Shifts.{shift_count}
+use Rattle.cpu_alu.specs.{Results.{low_bit, result_flags}, Shifts.{shift_count}}
 
 -- a shift by n to the word r, the last bit out being the carry; n of 0 or at least the width keeps a and all flags
 abbrev pub double_shift : ℕ → ℕ → ℕ → ℕ → Bool → Flags → ℕ × Flags

@@ -2,8 +2,7 @@
 -- Source: own. No public contract cites these words.
 use Rattle.std.specs.Prelude.{ℕ, ◌+◌, ◌-◌, ◌*◌, ◌/◌, ◌%◌, ◌^◌, Bool, nat_le, if◌then◌else◌}
 use Rattle.cpu_values.specs.Word.{cut}
-use Rattle.cpu_alu.specs.Results.{bit_of, low_bit}
-use Rattle.cpu_alu.specs.Shifts.{Moved}
+use Rattle.cpu_alu.specs.{Results.{bit_of, low_bit}, Shifts.{Moved}}
 
 -- the carry flag below the word
 abbrev pub carry_below : ℕ → Bool → ℕ

@@ -3,8 +3,7 @@
 use Rattle.std.specs.Prelude.{ℕ, ◌+◌, ◌*◌, ◌/◌, ◌%◌, ◌^◌, ℤ, pos, ◌+ℤ◌, ◌*ℤ◌, int_div, int_rem, nat_eq, nat_lt, if◌then◌else◌, Option, Some}
 use Rattle.std.specs.Prelude.{None}
 use Rattle.cpu_values.specs.Word.{signed_value}
-use Rattle.cpu_alu.specs.Results.{in_signed_range}
-use Rattle.cpu_alu.specs.Products.{signed_bits}
+use Rattle.cpu_alu.specs.{Results.{in_signed_range}, Products.{signed_bits}}
 
 -- the dividend's two halves as one number
 abbrev pub double_word : ℕ → ℕ → ℕ → ℕ

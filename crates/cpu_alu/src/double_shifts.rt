@@ -3,8 +3,7 @@
 
 ghost use Rattle.std.specs.Prelude.{◌≡◌, ◌/◌, ◌^◌, ◌<◌};
 ghost use Rattle.cpu_values.specs.Word.{IsWidth};
-ghost use Rattle.cpu_alu.specs.Results.{low_bit};
-ghost use Rattle.cpu_alu.specs.DoubleShifts.{double_left, double_right, shld_of, shrd_of};
+ghost use Rattle.cpu_alu.specs.{Results.{low_bit}, DoubleShifts.{double_left, double_right, shld_of, shrd_of}};
 
 use crate::results::set_result;
 use crate::shifts::shift_count;

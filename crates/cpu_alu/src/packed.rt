@@ -1,8 +1,8 @@
 // A word moved by a count of bits in one step, together with the carry flag: they are one number of W + 1 bits.
 ghost use Rattle.std.specs.Prelude.{◌≡◌, ◌*◌, ◌^◌, ◌<◌, ◌≤◌};
 ghost use Rattle.cpu_values.specs.Word.{IsWidth};
-ghost use Rattle.cpu_alu.specs.Packed.{carry_below, from_below, carry_above, from_above, sign_shifted, turned};
-ghost use Rattle.cpu_alu.specs.Shifts.{bits_moved, shl_bit, shr_bit, sar_bit, rol_bit, ror_bit, rcl_bit, rcr_bit};
+ghost use Rattle.cpu_alu.specs.{Packed.{carry_below, from_below, carry_above, from_above, sign_shifted, turned}, Shifts.{bits_moved}};
+ghost use Rattle.cpu_alu.specs.Shifts.{shl_bit, shr_bit, sar_bit, rol_bit, ror_bit, rcl_bit, rcr_bit};
 
 use crate::results::{exact, is_negative, modulus};
 use cpu_values::{Word, cut};

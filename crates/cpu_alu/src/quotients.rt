@@ -1,8 +1,7 @@
 // Quotients of a double word.
 #![tactic(auto, unfolding(crate::specs::Quotients::div_of, crate::specs::Quotients::idiv_of))]
 
-ghost use Rattle.std.specs.Prelude.{◌≡◌, ◌-◌, ◌^◌, ℤ, pos, ◌*ℤ◌, ◌≤ℤ◌, int_div, int_rem, SomeIff, FitsSigned};
-ghost use Rattle.std.specs.Int.{w64};
+ghost use Rattle.std.specs.{Prelude.{◌≡◌, ◌-◌, ◌^◌, ℤ, pos, ◌*ℤ◌, ◌≤ℤ◌, int_div, int_rem, SomeIff, FitsSigned}, Int.{w64}};
 ghost use Rattle.cpu_values.specs.Word.{IsWidth, signed_value};
 ghost use Rattle.cpu_alu.specs.Quotients.{signed_double_word, signed_quotient_of, div_of, idiv_of};
 

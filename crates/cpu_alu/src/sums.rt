@@ -4,9 +4,8 @@ crate::specs::Sums::inc_of, crate::specs::Sums::dec_of, crate::specs::Sums::neg_
 
 ghost use Rattle.std.specs.Prelude.{◌≡◌, ◌+◌, ◌-◌, ◌/◌, ◌%◌, ◌^◌, ◌<◌, ◌&&◌, nat_le, nat_lt};
 ghost use Rattle.cpu_values.specs.Word.{IsWidth};
-ghost use Rattle.cpu_alu.specs.Results.{bit_of, low_bit};
-ghost use Rattle.cpu_alu.specs.Sums.{word_sum, word_difference, sum_overflows, sum_with_flags, difference_overflows, difference_with_flags};
-ghost use Rattle.cpu_alu.specs.Sums.{add_of, adc_of, sub_of, sbb_of, inc_of, dec_of, neg_of};
+ghost use Rattle.cpu_alu.specs.{Results.{bit_of, low_bit}, Sums.{word_sum, word_difference, sum_overflows, sum_with_flags}};
+ghost use Rattle.cpu_alu.specs.Sums.{difference_overflows, difference_with_flags, add_of, adc_of, sub_of, sbb_of, inc_of, dec_of, neg_of};
 
 use crate::results::{modulus, set_result};
 use client_world::Flags;

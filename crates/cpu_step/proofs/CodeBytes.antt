@@ -1,15 +1,10 @@
 -- The code bytes: in a sound world they are bytes, and where they are fewer than an instruction may have, the next one can't be fetched.
 use Rattle.std.proofs.Common.{◌≡◌, ℕ, zero, suc, ◌+◌, ◌<◌, ◌≤◌, false, List, [], ◌∷◌, length, slice_index, refl, ap, ◌∙◌, sym, subst, arith}
 use Rattle.std.proofs.Common.{Option, None, Some, Result, Ok, Err}
-use Rattle.client_world.specs.declared.faults.Fault.{Fault}
-use Rattle.client_world.specs.declared.place.Place.{Place}
-use Rattle.client_world.specs.declared.place.Place.TheVariants.{Dos, Block, Host, Nothing}
-use Rattle.client_world.specs.declared.segments.SegReg.TheVariants.{Cs}
-use Rattle.client_world.specs.Access.{access, byte_of, bytes_of_block}
-use Rattle.client_world.specs.Soundness.{IsSound}
-use Rattle.client_world.specs.World.{World, MemoryBlock, block_at}
-use Rattle.guest_space.specs.Code.{one_byte, code_byte, code_from, code_room}
-use Rattle.guest_space.specs.Transfer.{read_result, bytes_at}
+use Rattle.client_world.specs.{declared.faults.Fault.{Fault}, declared.place.Place.{Place}, declared.place.Place.TheVariants.{Dos, Block}}
+use Rattle.client_world.specs.{declared.place.Place.TheVariants.{Host, Nothing}, declared.segments.SegReg.TheVariants.{Cs}, Access.{access}}
+use Rattle.client_world.specs.{Access.{byte_of, bytes_of_block}, Soundness.{IsSound}, World.{World, MemoryBlock, block_at}}
+use Rattle.guest_space.specs.{Code.{one_byte, code_byte, code_from, code_room}, Transfer.{read_result, bytes_at}}
 use Rattle.guest_space.proofs.Codes.{code_none, code_next, code_stops}
 use Rattle.insn_forms.specs.Grammar.{AllBytes}
 use Rattle.cpu_step.specs.Step.{code}

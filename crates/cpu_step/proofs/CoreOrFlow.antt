@@ -1,7 +1,6 @@
 -- Each instruction is one of exec_core's or one of exec_flow's.
 use Rattle.std.proofs.Common.{◌≡◌, true, false, not, ap}
-use Rattle.insn_forms.specs.declared.insn.Op.{Op}
-use Rattle.insn_forms.specs.declared.insn.Operand.{Operand}
+use Rattle.insn_forms.specs.{declared.insn.Op.{Op}, declared.insn.Operand.{Operand}}
 use Rattle.exec_core.specs.Dispatch.{is_core}
 use Rattle.exec_flow.specs.Dispatch.{is_flow}
 

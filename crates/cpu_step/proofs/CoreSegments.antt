@@ -1,66 +1,20 @@
 -- No row of exec_core changes a segment register.
-use Rattle.std.proofs.Common.{ℕ, nat_eq, Bool, true, Option, None, Some}
-use Rattle.client_world.specs.declared.registers.Flags.{Flags}
-use Rattle.client_world.specs.declared.registers.Regs.{Regs}
-use Rattle.client_world.specs.World.{World}
+use Rattle.std.proofs.Common.{ℕ, Bool, true, Option, None, Some}
+use Rattle.client_world.specs.{declared.registers.Flags.{Flags}, declared.registers.Regs.{Regs}, World.{World}}
 use Rattle.cpu_values.specs.Word.{cut}
 use Rattle.cpu_alu.specs.Sums.{sub_of}
-use Rattle.exec_core.specs.Arithmetic.{Formula, SingleFormula, binary, compare, unary}
-use Rattle.exec_core.specs.Bits.{setcc, bit_test, bit_change, bit_scan}
-use Rattle.exec_core.specs.Decimal.{with_ax_in, adjust, aad, aam, aam_done}
-use Rattle.exec_core.specs.Dispatch.{core_row}
-use Rattle.exec_core.specs.FlagRows.{clc, stc, cmc, cld, std, lahf, sahf, wait}
-use Rattle.exec_core.specs.Moves.{mov, movzx, movsx, xchg, lea, xlat, cbw, cwd}
-use Rattle.exec_core.specs.Products.{Product, Quotient, with_double, multiply, multiply_two, multiply_three, is_empty, imul, divided}
-use Rattle.exec_core.specs.Products.{divide}
-use Rattle.exec_core.specs.Shifts.{DoubleFormula, shift, shift_in}
-use Rattle.exec_core.specs.Stacks.{push, pop, pusha, popa}
-use Rattle.exec_core.specs.Strings.{is_repeated, is_over, with_source_next, with_destination_next, repeated, goes_on_while, movs, cmps}
-use Rattle.exec_core.specs.Strings.{stos, lods, scas}
-use Rattle.insn_forms.specs.declared.insn.Insn.{Insn}
-use Rattle.insn_forms.specs.declared.insn.Op.{Op}
-use Rattle.insn_forms.specs.declared.insn.Op.TheVariants as ops
-use Rattle.insn_plan.specs.Registers.{register, with_register}
-use Rattle.insn_plan.specs.Stack.{with_pushed_number, regs_after_pops}
+use Rattle.exec_core.specs.{Arithmetic.{binary, compare, unary}, Bits.{setcc, bit_test, bit_change, bit_scan}, Decimal.{with_ax_in, adjust}}
+use Rattle.exec_core.specs.{Decimal.{aad, aam, aam_done}, Dispatch.{core_row}, FlagRows.{clc, stc, cmc, cld, std, lahf, sahf, wait}}
+use Rattle.exec_core.specs.{Moves.{mov, movzx, movsx, xchg, lea, xlat, cbw, cwd}, Products.{Product, Quotient, with_double, multiply}}
+use Rattle.exec_core.specs.{Products.{multiply_two, multiply_three, is_empty, imul, divided, divide}, Shifts.{shift, shift_in}}
+use Rattle.exec_core.specs.{Stacks.{push, pop, pusha, popa}, Strings.{is_repeated, is_over, with_source_next, with_destination_next}}
+use Rattle.exec_core.specs.Strings.{repeated, goes_on_while, movs, cmps, stos, lods, scas}
+use Rattle.insn_forms.specs.{declared.insn.Insn.{Insn}, declared.insn.Op.{Op}}
+use Rattle.insn_plan.specs.{Registers.{register, with_register}, Stack.{with_pushed_number, regs_after_pops}}
 use Rattle.cpu_step.proofs.SegmentWords.{HoldWords, LeavesWords, words_if, leaves_if, words_register, words_put, words_pushed}
+use Rattle.insn_forms.specs.declared.insn.Op.TheVariants as ops
 
 -- ---- arithmetic, shifts and bits
-
-binary_leaves : (f : Formula) (w : World) (i : Insn) → HoldWords w.regs → LeavesWords (binary f w i)
-unfolding binary
-binary_leaves f w i s = λ a b. words_put _ _ _ _ _ _ s
-
-compare_leaves : (f : Formula) (w : World) (i : Insn) → HoldWords w.regs → LeavesWords (compare f w i)
-unfolding compare
-compare_leaves f w i s = λ a b. s
-
-unary_leaves : (f : SingleFormula) (w : World) (i : Insn) → HoldWords w.regs → LeavesWords (unary f w i)
-unfolding unary
-unary_leaves f w i s = λ a. words_put _ _ _ _ _ _ s
-
-shift_leaves : (f : Formula) (w : World) (i : Insn) → HoldWords w.regs → LeavesWords (shift f w i)
-unfolding shift
-shift_leaves f w i s = λ a count. words_put _ _ _ _ _ _ s
-
-shift_in_leaves : (f : DoubleFormula) (w : World) (i : Insn) → HoldWords w.regs → LeavesWords (shift_in f w i)
-unfolding shift_in
-shift_in_leaves f w i s = λ a b count. words_put _ _ _ _ _ _ s
-
-setcc_leaves : (w : World) (i : Insn) (n : ℕ) → HoldWords w.regs → LeavesWords (setcc w i n)
-unfolding setcc
-setcc_leaves w i n s = words_put _ _ _ _ _ _ s
-
-bit_test_leaves : (w : World) (i : Insn) → HoldWords w.regs → LeavesWords (bit_test w i)
-unfolding bit_test
-bit_test_leaves w i s = λ offset a. s
-
-bit_change_leaves : (f : ℕ → ℕ → ℕ) (w : World) (i : Insn) → HoldWords w.regs → LeavesWords (bit_change f w i)
-unfolding bit_change
-bit_change_leaves f w i s = λ offset a. words_put _ _ _ _ _ _ s
-
-bit_scan_leaves : (f : ℕ → ℕ → ℕ) (w : World) (i : Insn) → HoldWords w.regs → LeavesWords (bit_scan f w i)
-unfolding bit_scan
-bit_scan_leaves f w i s = λ v. leaves_if (nat_eq (cut i.width v) 0) _ _ s (words_put _ _ _ _ _ _ s)
 
 -- ---- decimal adjustment, products and quotients
 
@@ -90,18 +44,10 @@ multiply_leaves : (f : Product) (w : World) (i : Insn) → HoldWords w.regs → 
 unfolding multiply
 multiply_leaves f w i s = λ a. double_words _ _ _ _ s
 
-multiply_two_leaves : (w : World) (i : Insn) → HoldWords w.regs → LeavesWords (multiply_two w i)
-unfolding multiply_two
-multiply_two_leaves w i s = λ a b. words_put _ _ _ _ _ _ s
-
-multiply_three_leaves : (w : World) (i : Insn) → HoldWords w.regs → LeavesWords (multiply_three w i)
-unfolding multiply_three
-multiply_three_leaves w i s = λ a b. words_put _ _ _ _ _ _ s
-
 imul_leaves : (w : World) (i : Insn) → HoldWords w.regs → LeavesWords (imul w i)
-unfolding imul
+unfolding imul multiply_two multiply_three
 imul_leaves w i s = leaves_if (is_empty i.second) _ _ (multiply_leaves _ w i s)
-    (leaves_if (is_empty i.third) _ _ (multiply_two_leaves w i s) (multiply_three_leaves w i s))
+    (leaves_if (is_empty i.third) _ _ (λ a b. words_put _ _ _ _ _ _ s) (λ a b. words_put _ _ _ _ _ _ s))
 
 divided_leaves : (w : World) (width : ℕ) (o : Option (ℕ × ℕ)) → HoldWords w.regs → LeavesWords (divided w width o)
 divided_leaves w width None s = tt
@@ -112,26 +58,6 @@ unfolding divide
 divide_leaves f w i s = λ by. divided_leaves w i.width _ s
 
 -- ---- moves and flags
-
-mov_leaves : (w : World) (i : Insn) → HoldWords w.regs → LeavesWords (mov w i)
-unfolding mov
-mov_leaves w i s = λ v. words_put _ _ _ _ _ _ s
-
-movzx_leaves : (w : World) (i : Insn) (n : ℕ) → HoldWords w.regs → LeavesWords (movzx w i n)
-unfolding movzx
-movzx_leaves w i n s = λ v. words_put _ _ _ _ _ _ s
-
-movsx_leaves : (w : World) (i : Insn) (n : ℕ) → HoldWords w.regs → LeavesWords (movsx w i n)
-unfolding movsx
-movsx_leaves w i n s = λ v. words_put _ _ _ _ _ _ s
-
-xchg_leaves : (w : World) (i : Insn) → HoldWords w.regs → LeavesWords (xchg w i)
-unfolding xchg
-xchg_leaves w i s = λ a b. words_put _ _ _ _ _ _ (words_put _ _ _ _ _ _ s)
-
-lea_leaves : (w : World) (i : Insn) → HoldWords w.regs → LeavesWords (lea w i)
-unfolding lea
-lea_leaves w i s = words_put _ _ _ _ _ _ s
 
 xlat_leaves : (w : World) (i : Insn) → HoldWords w.regs → LeavesWords (xlat w i)
 unfolding xlat
@@ -149,41 +75,7 @@ lahf_leaves : (w : World) → HoldWords w.regs → LeavesWords (lahf w)
 unfolding lahf
 lahf_leaves w s = words_register _ _ _ _ s
 
--- the rows that change flags alone, or nothing
-record FlagsAlone (w : World) : Type 0 where
-  clc_leaves : LeavesWords (clc w)
-  stc_leaves : LeavesWords (stc w)
-  cmc_leaves : LeavesWords (cmc w)
-  cld_leaves : LeavesWords (cld w)
-  std_leaves : LeavesWords (std w)
-  sahf_leaves : LeavesWords (sahf w)
-  wait_leaves : LeavesWords (wait w)
-
-flags_alone : (w : World) → HoldWords w.regs → FlagsAlone w
-unfolding clc stc cmc cld std sahf wait
-flags_alone w s = record {
-  clc_leaves = s;
-  stc_leaves = s;
-  cmc_leaves = s;
-  cld_leaves = s;
-  std_leaves = s;
-  sahf_leaves = s;
-  wait_leaves = s;
-}
-
 -- ---- stacks
-
-push_leaves : (w : World) (i : Insn) → HoldWords w.regs → LeavesWords (push w i)
-unfolding push
-push_leaves w i s = λ v. words_pushed _ _ _ _ s
-
-pop_leaves : (w : World) (i : Insn) → HoldWords w.regs → LeavesWords (pop w i)
-unfolding pop regs_after_pops
-pop_leaves w i s = λ v. words_put _ _ _ _ _ _ s
-
-pusha_leaves : (w : World) (i : Insn) → HoldWords w.regs → LeavesWords (pusha w i)
-unfolding pusha with_pushed_number
-pusha_leaves w i s = s
 
 popa_leaves : (w : World) (i : Insn) → HoldWords w.regs → LeavesWords (popa w i)
 unfolding popa regs_after_pops
@@ -229,41 +121,28 @@ scas_leaves w i len s = leaves_if (is_over w i) _ _ s (λ b.
     let f = (sub_of i.width (cut i.width (register w.regs i.width 0)) (cut i.width b) w.regs.flags).1 in
     repeated_words w i len (goes_on_while i.rep f) (with_destination_next w i (record w.regs { flags = f })) s)
 
--- ---- all of them: each by the lemma of its row, which is found; the first line makes a case of each operation
+-- ---- all of them. A row that puts a number into an operand, pushes one, or leaves the registers is opened; each other one is shown by
+-- its lemma, which is found. The first line makes a case of each operation
 
 pub core_leaves : (op : Op) (w : World) (i : Insn) (len : ℕ) → HoldWords w.regs → LeavesWords (core_row op w i len)
-unfolding core_row
-core_leaves ops.Add w i len s = binary_leaves _ w i s
+unfolding core_row binary compare unary shift shift_in setcc bit_test bit_change bit_scan mov movzx movsx xchg lea push pop pusha
+    regs_after_pops with_pushed_number clc stc cmc cld std sahf wait
+core_leaves ops.Add w i len s = λ a b. words_put _ _ _ _ _ _ s
 core_leaves _ w i len s = search (
   s,
-  flags_alone w s,
-  binary_leaves,
-  compare_leaves,
-  unary_leaves,
+  words_put,
+  words_pushed,
   multiply_leaves,
   imul_leaves,
   divide_leaves,
   adjust_leaves,
   aam_leaves,
   aad_leaves,
-  shift_leaves,
-  shift_in_leaves,
-  bit_test_leaves,
-  bit_change_leaves,
-  bit_scan_leaves,
-  setcc_leaves,
-  mov_leaves,
-  movzx_leaves,
-  movsx_leaves,
-  xchg_leaves,
-  lea_leaves,
+  leaves_if,
   xlat_leaves,
   cbw_leaves,
   cwd_leaves,
   lahf_leaves,
-  push_leaves,
-  pop_leaves,
-  pusha_leaves,
   popa_leaves,
   movs_leaves,
   cmps_leaves,

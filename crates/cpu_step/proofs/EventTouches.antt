@@ -1,18 +1,13 @@
 -- An instruction has touches exactly where it is no event.
 use Rattle.std.proofs.Common.{◌≡◌, ℕ, List, [], ◌∷◌, ◌++◌, refl, ap, sym, ◌∙◌, subst, Option, None, Some, Result, Ok, Err}
 use Rattle.std.specs.Prelude.{IsErr, IsOk, is_err, is_ok}
-use Rattle.client_world.specs.declared.faults.Event.{Event}
-use Rattle.client_world.specs.declared.faults.Event.TheVariants.{Fault as fault}
-use Rattle.client_world.specs.declared.faults.Fault.{Fault}
-use Rattle.client_world.specs.World.{World}
-use Rattle.guest_space.specs.declared.pending.Write.{Write}
-use Rattle.guest_space.specs.Pending.{first_write_fault, write_fault, after_writes}
+use Rattle.client_world.specs.{declared.faults.Event.{Event}, declared.faults.Event.TheVariants.{Fault as fault}}
+use Rattle.client_world.specs.{declared.faults.Fault.{Fault}, World.{World}, declared.watchpoints.Touch.{Touch}}
+use Rattle.guest_space.specs.{declared.pending.Write.{Write}, Pending.{first_write_fault, write_fault, after_writes}}
 use Rattle.host_memory.specs.View.{MachineView}
-use Rattle.insn_plan.specs.declared.accesses.Access.{Access}
-use Rattle.client_world.specs.declared.watchpoints.Touch.{Touch}
-use Rattle.insn_plan.specs.Accesses.{and_read, and_writes, accesses_after, touch_of_access, touch_of, touches_after, touches_where, touches}
-use Rattle.insn_plan.specs.Act.{Act, End, Read, Done, Raise, Interrupt, Input, Given, From, Pending, value_of}
-use Rattle.insn_plan.specs.Plan.{plan_result, after_plan, after_commit, with_state}
+use Rattle.insn_plan.specs.{declared.accesses.Access.{Access}, Accesses.{and_read, and_writes, accesses_after, touch_of_access, touch_of}}
+use Rattle.insn_plan.specs.{Accesses.{touches_after, touches_where, touches}, Act.{Act, End, Read, Done, Raise, Interrupt, Input, Given}}
+use Rattle.insn_plan.specs.{Act.{From, Pending, value_of}, Plan.{plan_result, after_plan, after_commit, with_state}}
 use Rattle.cpu_step.proofs.Joined.{AllGranted, IsGranted, access_of, are_written, granted_front, value_granted, known, known_touches}
 
 granted_back : (w : World) (front back : List Access) → AllGranted w front → AllGranted w back → AllGranted w (front ++ back)

@@ -1,67 +1,29 @@
 -- A row of exec_flow puts words alone into segment registers.
-use Rattle.std.proofs.Common.{ℕ, zero, suc, ◌+◌, ◌/◌, ◌%◌, ◌<◌, ◌^◌, arith, nat_eq, nat_lt, Bool, false, not, ◌&&◌, ◌||◌, None, Some}
-use Rattle.client_world.specs.declared.descriptors.Desc.{Desc}
-use Rattle.client_world.specs.declared.registers.Mode.{Mode}
-use Rattle.client_world.specs.declared.registers.Mode.TheVariants.{Real, Protected}
-use Rattle.client_world.specs.declared.segments.SegReg.{SegReg}
-use Rattle.client_world.specs.declared.segments.SegReg.TheVariants.{Cs}
-use Rattle.client_world.specs.Loading.{register_fault, transfer_fault}
-use Rattle.client_world.specs.Selector.{Row, client_selector, privilege_of}
-use Rattle.client_world.specs.World.{World}
-use Rattle.exec_flow.specs.Dispatch.{flow_row}
-use Rattle.exec_flow.specs.FarTransfers.{code_selector, far_transfer, jump_far, call_far, far_frame_pop, retf, interrupt_frame_pop, iret}
-use Rattle.exec_flow.specs.FlagImages.{pushf, with_popped_flags, popf, cli, sti}
-use Rattle.exec_flow.specs.Frames.{push_saved_frames, with_new_frame, enter, leave, is_less_signed, bound}
-use Rattle.exec_flow.specs.Interrupts.{int, int3, into}
-use Rattle.exec_flow.specs.Pointers.{offset_range}
-use Rattle.exec_flow.specs.Ports.{input, output}
-use Rattle.exec_flow.specs.Questions.{verify, descriptor_answer, load_from_descriptor, arpl}
-use Rattle.exec_flow.specs.Raising.{invalid_opcode, privileged, escape, in_protected, load_table}
+use Rattle.std.proofs.Common.{ℕ, zero, suc, ◌+◌, ◌/◌, ◌%◌, ◌<◌, arith, nat_eq, nat_lt, Bool, false, None, Some}
+use Rattle.client_world.specs.{declared.descriptors.Desc.{Desc}, declared.registers.Mode.{Mode}, declared.registers.Mode.TheVariants.{Real}}
+use Rattle.client_world.specs.{declared.registers.Mode.TheVariants.{Protected}, declared.segments.SegReg.{SegReg}}
+use Rattle.client_world.specs.{declared.segments.SegReg.TheVariants.{Cs}, Loading.{register_fault, transfer_fault}, Selector.{Row}}
+use Rattle.client_world.specs.{Selector.{client_selector, privilege_of}, World.{World}}
+use Rattle.exec_flow.specs.{Dispatch.{flow_row}, FarTransfers.{code_selector, far_transfer, jump_far, call_far, far_frame_pop, retf}}
+use Rattle.exec_flow.specs.{FarTransfers.{interrupt_frame_pop, iret}, FlagImages.{pushf, with_popped_flags, popf, cli, sti}}
+use Rattle.exec_flow.specs.{Frames.{push_saved_frames, with_new_frame, enter, leave, bound}, Interrupts.{int, int3, into}}
+use Rattle.exec_flow.specs.{Pointers.{offset_range}, Ports.{input, output}, Questions.{verify, descriptor_answer, load_from_descriptor}}
+use Rattle.exec_flow.specs.{Questions.{arpl}, Raising.{invalid_opcode, privileged, escape, in_protected, load_table}}
 use Rattle.exec_flow.specs.Segments.{with_loaded_segment, mov_to_segment, mov_from_segment, mov_segment, push_segment, pop_into}
-use Rattle.exec_flow.specs.Segments.{pop_segment, load_pointer}
-use Rattle.exec_flow.specs.Transfers.{at_operand_size, near_transfer, jcc, jcxz, count_down, with_next_count, loop_while, jmp, call}
-use Rattle.exec_flow.specs.Transfers.{immediate, ret}
-use Rattle.insn_forms.specs.declared.insn.Insn.{Insn}
-use Rattle.insn_forms.specs.declared.insn.Op.{Op}
-use Rattle.insn_forms.specs.declared.insn.Op.TheVariants as ops
-use Rattle.insn_forms.specs.declared.insn.Operand.{Operand}
+use Rattle.exec_flow.specs.{Segments.{pop_segment, load_pointer}, Transfers.{at_operand_size, near_transfer, jcc, jcxz, loop_while, jmp}}
+use Rattle.exec_flow.specs.Transfers.{call, immediate, ret}
+use Rattle.insn_forms.specs.{declared.insn.Insn.{Insn}, declared.insn.Op.{Op}, declared.insn.Operand.{Operand}}
 use Rattle.insn_forms.specs.declared.insn.Operand.TheVariants.{Empty, Reg, Seg, Mem, Imm, Far}
-use Rattle.insn_plan.specs.Act.{Act, Pending, unchanged}
-use Rattle.insn_plan.specs.Conditions.{condition}
-use Rattle.insn_plan.specs.Counter.{counter}
-use Rattle.insn_plan.specs.Stack.{regs_after_pops}
+use Rattle.insn_plan.specs.{Act.{Act, Pending}, Stack.{regs_after_pops}}
 use Rattle.cpu_step.proofs.SegmentWords.{HoldWords, LeavesWords, leaves_if, leaves_by_mode, leaves_unless, words_register, words_put}
 use Rattle.cpu_step.proofs.SegmentWords.{words_pushed, words_selector, half_is_word}
+use Rattle.insn_forms.specs.declared.insn.Op.TheVariants as ops
 
 -- ---- near transfers
 
 near_leaves : (w : World) (i : Insn) (ip : ℕ) (p : Pending) → HoldWords p.regs → LeavesWords (near_transfer w i ip p)
 unfolding near_transfer
 near_leaves w i ip p s = leaves_unless (transfer_fault w w.regs.cs (at_operand_size i ip) false) _ s
-
-jcc_leaves : (w : World) (i : Insn) (n : ℕ) → HoldWords w.regs → LeavesWords (jcc w i n)
-unfolding jcc
-jcc_leaves w i n s = λ ip. leaves_if (condition n w.regs.flags) _ _ (near_leaves w i ip (unchanged w) s) s
-
-jcxz_leaves : (w : World) (i : Insn) → HoldWords w.regs → LeavesWords (jcxz w i)
-unfolding jcxz
-jcxz_leaves w i s = λ ip. leaves_if (nat_eq (counter w i) 0) _ _ (near_leaves w i ip (unchanged w) s) s
-
-loop_leaves : (holds : Bool) (w : World) (i : Insn) → HoldWords w.regs → LeavesWords (loop_while holds w i)
-unfolding loop_while
-loop_leaves holds w i s = λ ip. leaves_if (holds && not (nat_eq (count_down w i) 0)) _ _ (near_leaves w i ip (with_next_count w i) s) s
-
-jmp_leaves : (w : World) (i : Insn) → HoldWords w.regs → LeavesWords (jmp w i)
-unfolding jmp
-jmp_leaves w i s = λ ip. near_leaves w i ip (unchanged w) s
-
-call_leaves : (w : World) (i : Insn) → HoldWords w.regs → LeavesWords (call w i)
-unfolding call
-call_leaves w i s = λ ip. near_leaves w i ip _ (words_pushed _ _ _ _ s)
-
-ret_leaves : (w : World) (i : Insn) → HoldWords w.regs → LeavesWords (ret w i)
-unfolding ret regs_after_pops
-ret_leaves w i s = λ ip. near_leaves w i ip _ s
 
 -- ---- far transfers
 
@@ -79,29 +41,13 @@ unfolding far_transfer
 far_leaves w sel ip return p small s =
     leaves_unless (transfer_fault w sel ip return) _ (words_selector p.regs Cs (code_selector w sel) s (code_is_word w sel small))
 
-jump_far_leaves : (w : World) (i : Insn) → HoldWords w.regs → LeavesWords (jump_far w i)
-unfolding jump_far
-jump_far_leaves w i s = λ p. far_leaves w _ _ _ _ (half_is_word (p / offset_range i)) s
-
-call_far_leaves : (w : World) (i : Insn) → HoldWords w.regs → LeavesWords (call_far w i)
-unfolding call_far
-call_far_leaves w i s = λ p. far_leaves w _ _ _ _ (half_is_word (p / offset_range i)) (words_pushed _ _ _ _ (words_pushed _ _ _ _ s))
-
 pub far_frame_leaves : (w : World) (bits bytes : ℕ) → HoldWords w.regs → LeavesWords (far_frame_pop w bits bytes)
 unfolding far_frame_pop regs_after_pops
 far_frame_leaves w bits bytes s = λ ip cs. far_leaves w _ _ _ _ (half_is_word cs) s
 
-retf_leaves : (w : World) (i : Insn) → HoldWords w.regs → LeavesWords (retf w i)
-unfolding retf
-retf_leaves w i s = far_frame_leaves w i.width (immediate i.first) s
-
 pub frame_leaves : (w : World) (bits : ℕ) → HoldWords w.regs → LeavesWords (interrupt_frame_pop w bits)
 unfolding interrupt_frame_pop with_popped_flags regs_after_pops
 frame_leaves w bits s = λ ip cs image. far_leaves w _ _ _ _ (half_is_word cs) s
-
-iret_leaves : (w : World) (i : Insn) → HoldWords w.regs → LeavesWords (iret w i)
-unfolding iret
-iret_leaves w i s = frame_leaves w i.width s
 
 -- ---- segment registers
 
@@ -114,10 +60,6 @@ mov_to_leaves : (w : World) (i : Insn) (seg : SegReg) → HoldWords w.regs → L
 unfolding mov_to_segment
 mov_to_leaves w i seg s = λ v. loaded_leaves w seg _ _ (half_is_word v) s
 
-mov_from_leaves : (w : World) (i : Insn) → HoldWords w.regs → LeavesWords (mov_from_segment w i)
-unfolding mov_from_segment
-mov_from_leaves w i s = λ v. words_put _ _ _ _ _ _ s
-
 -- what is done with a segment register, and with any other operand
 by_operand : (o : Operand) (f : SegReg → Act) (other : Act) → ((seg : SegReg) → LeavesWords (f seg)) → LeavesWords other →
     LeavesWords (elim o [ Seg seg ↦ f seg | _ ↦ other ])
@@ -129,13 +71,9 @@ by_operand (Imm v) f other one rest = rest
 by_operand (Far p) f other one rest = rest
 
 mov_segment_leaves : (w : World) (i : Insn) → HoldWords w.regs → LeavesWords (mov_segment w i)
-unfolding mov_segment
+unfolding mov_segment mov_from_segment
 mov_segment_leaves w i s =
-    by_operand i.first (mov_to_segment w i) (mov_from_segment w i) (λ seg. mov_to_leaves w i seg s) (mov_from_leaves w i s)
-
-push_segment_leaves : (w : World) (i : Insn) → HoldWords w.regs → LeavesWords (push_segment w i)
-unfolding push_segment
-push_segment_leaves w i s = λ v. words_pushed _ _ _ _ s
+    by_operand i.first (mov_to_segment w i) (mov_from_segment w i) (λ seg. mov_to_leaves w i seg s) (λ v. words_put _ _ _ _ _ _ s)
 
 pop_into_leaves : (w : World) (i : Insn) (seg : SegReg) → HoldWords w.regs → LeavesWords (pop_into w i seg)
 unfolding pop_into regs_after_pops
@@ -150,14 +88,6 @@ unfolding load_pointer
 pointer_leaves seg w i s = λ p. loaded_leaves w seg _ _ (half_is_word (p / offset_range i)) (words_put _ _ _ _ _ _ s)
 
 -- ---- flags, frames, ports and questions
-
-pushf_leaves : (w : World) (i : Insn) → HoldWords w.regs → LeavesWords (pushf w i)
-unfolding pushf
-pushf_leaves w i s = words_pushed _ _ _ _ s
-
-popf_leaves : (w : World) (i : Insn) → HoldWords w.regs → LeavesWords (popf w i)
-unfolding popf with_popped_flags regs_after_pops
-popf_leaves w i s = λ image. s
 
 frames_leave : (w : World) (i : Insn) (level n : ℕ) (p : Pending) (rest : Pending → Act) →
     ((q : Pending) → HoldWords q.regs → LeavesWords (rest q)) →
@@ -179,19 +109,6 @@ enter_leaves w i s =
 leave_leaves : (w : World) (i : Insn) → HoldWords w.regs → LeavesWords (leave w i)
 unfolding leave regs_after_pops
 leave_leaves w i s = λ bp. words_register _ _ _ _ s
-
-bound_leaves : (w : World) (i : Insn) → HoldWords w.regs → LeavesWords (bound w i)
-unfolding bound
-bound_leaves w i s = λ index pair.
-    leaves_if (is_less_signed i.width index pair || is_less_signed i.width (pair / 2 ^ i.width) index) _ _ tt s
-
-into_leaves : (w : World) (len : ℕ) → HoldWords w.regs → LeavesWords (into w len)
-unfolding into
-into_leaves w len s = leaves_if w.regs.flags.of _ _ tt s
-
-in_leaves : (w : World) (i : Insn) → HoldWords w.regs → LeavesWords (input w i)
-unfolding input
-in_leaves w i s = words_put _ _ _ _ _ _ s
 
 in_protected_leaves : (w : World) (act : Act) → LeavesWords act → LeavesWords (in_protected w act)
 unfolding in_protected invalid_opcode
@@ -217,34 +134,27 @@ load_table_leaves : (w : World) → LeavesWords (load_table w)
 unfolding load_table privileged
 load_table_leaves w = in_protected_leaves w _ tt
 
--- ---- all of them: each by the lemma of its row, which is found; the first line makes a case of each operation. Rows that only raise an
--- exception, or leave the registers, are opened instead
+-- ---- all of them. A row that puts or pushes a number, makes a near transfer, raises an exception or leaves the registers is opened; each
+-- other one is shown by its lemma, which is found. The first line makes a case of each operation
 
 pub flow_leaves : (op : Op) (w : World) (i : Insn) (len : ℕ) → HoldWords w.regs → LeavesWords (flow_row op w i len)
-unfolding flow_row int int3 cli sti output invalid_opcode privileged escape
+unfolding flow_row int int3 cli sti output invalid_opcode privileged escape with_popped_flags regs_after_pops
+    push_segment pushf popf input retf iret jmp jump_far call call_far ret jcc jcxz loop_while into bound
 flow_leaves ops.Mov w i len s = mov_segment_leaves w i s
 flow_leaves _ w i len s = search (
   s,
+  words_put,
+  words_pushed,
+  leaves_if,
+  near_leaves,
+  far_leaves,
+  half_is_word,
+  far_frame_leaves,
+  frame_leaves,
   mov_segment_leaves,
-  push_segment_leaves,
   pop_segment_leaves,
-  pushf_leaves,
-  popf_leaves,
-  jcc_leaves,
-  jcxz_leaves,
-  loop_leaves,
-  jmp_leaves,
-  jump_far_leaves,
-  call_leaves,
-  call_far_leaves,
-  ret_leaves,
-  retf_leaves,
-  into_leaves,
-  iret_leaves,
-  bound_leaves,
   enter_leaves,
   leave_leaves,
-  in_leaves,
   pointer_leaves,
   tell_leaves,
   verify_leaves,

@@ -1,43 +1,27 @@
 -- Every place that an instruction touches is the client's.
-use Rattle.std.proofs.Common.{◌≡◌, ℕ, zero, suc, ◌+◌, ◌*◌, Bool, true, false, List, [], ◌∷◌, refl, if◌then◌else◌, Option, None, Some}
-use Rattle.std.proofs.Common.{Result, Ok, Err}
-use Rattle.std.specs.Prelude.{All}
+use Rattle.std.proofs.Common.{◌≡◌, ℕ, zero, suc, ◌+◌, ◌*◌, Bool, true, false, List, [], ◌∷◌, refl, Option, None, Some, Result, Ok, Err}
 use Rattle.std.proofs.lemmas.List.Elements.{All-nil, All-cons, All-append, All-weaker}
-use Rattle.client_world.specs.declared.faults.Event.{Event}
-use Rattle.client_world.specs.declared.faults.Event.TheVariants.{Fault as fault, Soft}
-use Rattle.client_world.specs.declared.faults.Fault.{Fault}
-use Rattle.client_world.specs.declared.place.Place.{Place}
-use Rattle.client_world.specs.declared.place.Place.TheVariants.{Dos, Block, Host, Nothing}
-use Rattle.client_world.specs.declared.registers.Mode.{Mode}
-use Rattle.client_world.specs.declared.registers.Mode.TheVariants.{Real, Protected}
-use Rattle.client_world.specs.declared.segments.SegReg.{SegReg}
-use Rattle.client_world.specs.declared.segments.SegReg.TheVariants.{Cs}
-use Rattle.client_world.specs.Access.{access, segment_base, places_at, places_from, place_in, linear, first_forbidden, unless_forbidden}
-use Rattle.client_world.specs.Access.{may_touch, IsHeld}
-use Rattle.client_world.specs.World.{World}
-use Rattle.client_world.proofs.PlaceLaws.{held-place}
+use Rattle.std.specs.Prelude.{All}
+use Rattle.client_world.specs.{declared.faults.Event.{Event}, declared.faults.Event.TheVariants.{Fault as fault, Soft}}
+use Rattle.client_world.specs.{declared.faults.Fault.{Fault}, declared.place.Place.{Place}, declared.place.Place.TheVariants.{Dos, Block}}
+use Rattle.client_world.specs.{declared.place.Place.TheVariants.{Host, Nothing}, declared.registers.Mode.{Mode}}
+use Rattle.client_world.specs.{declared.registers.Mode.TheVariants.{Real, Protected}, declared.segments.SegReg.{SegReg}}
+use Rattle.client_world.specs.{declared.segments.SegReg.TheVariants.{Cs}, Access.{access, segment_base, places_at, places_from, place_in}}
+use Rattle.client_world.specs.{Access.{linear, first_forbidden, unless_forbidden, may_touch, IsHeld}, World.{World}}
+use Rattle.client_world.proofs.PlaceLaws.{held-place, allowed-both}
 use Rattle.exec_flow.specs.Interrupts.{interrupt_push}
-use Rattle.guest_space.specs.Code.{code_room}
-use Rattle.guest_space.specs.declared.pending.Write.{Write}
-use Rattle.guest_space.specs.Pending.{byte_count, first_write_fault}
-use Rattle.insn_decode.specs.declared.decoding.Decoded.{Decoded}
-use Rattle.insn_decode.specs.declared.decoding.Decoded.TheVariants.{Whole, More, Invalid}
+use Rattle.guest_space.specs.{Code.{code_room}, declared.pending.Write.{Write}, Pending.{byte_count, first_write_fault}}
+use Rattle.insn_decode.specs.{declared.decoding.Decoded.{Decoded}, declared.decoding.Decoded.TheVariants.{Whole, More, Invalid}}
 use Rattle.insn_decode.specs.Decode.{decoded}
-use Rattle.insn_plan.specs.Accesses.{with_next_eip}
-use Rattle.insn_plan.specs.Act.{Act, End, Read, Input, Given, From, Pending, value_of}
-use Rattle.insn_plan.specs.Plan.{plan_result}
-use Rattle.cpu_step.specs.Step.{has_big_code, code, client_row}
-use Rattle.cpu_step.specs.Touched.{and_then, touched_by_fetch, input_read, read_places, write_places, vector_places, vector_read_places}
-use Rattle.cpu_step.specs.Touched.{places_after_reads, touched_by_instruction, touched_by_decoded, touched_by_step}
+use Rattle.insn_plan.specs.{Accesses.{with_next_eip}, Act.{Act, End, Read, Input, Given, From, Pending, value_of}, Plan.{plan_result}}
+use Rattle.cpu_step.specs.{Step.{has_big_code, code, client_row}, Touched.{and_then, touched_by_fetch, input_read, read_places}}
+use Rattle.cpu_step.specs.Touched.{write_places, vector_places, vector_read_places, places_after_reads, touched_by_instruction}
+use Rattle.cpu_step.specs.Touched.{touched_by_decoded, touched_by_step}
 
 abbrev AreHeld : World → List Place → Type 0
 AreHeld w places = All (IsHeld w) places
 
 -- ---- an access that is granted
-
-granted : (c : Bool) (rest : Option Place) (p : Place) → (if c then rest else Some p) ≡ None → (c ≡ true) × (rest ≡ None)
-granted true rest p e = (refl, e)
-granted false rest p e = absurd cc
 
 run_held : (w : World) (at n : ℕ) (write : Bool) → first_forbidden (places_from w.blocks at n) write ≡ None →
     AreHeld w (places_from w.blocks at n)
@@ -46,7 +30,7 @@ run_held w at zero write e = All-nil (IsHeld w)
 run_held w at (suc n) write e =
     let p = place_in w.blocks (linear at) in
     let rest = places_from w.blocks (at + 1) n in
-    let both = granted (may_touch p write) (first_forbidden rest write) p e in
+    let both = allowed-both (may_touch p write) (first_forbidden rest write) p e in
     All-cons (IsHeld w) p rest (held-place w (linear at) write both.0) (run_held w (at + 1) n write both.1)
 
 -- the places of an answer are the client's
@@ -144,16 +128,17 @@ executed_held w act =
     All-append (IsHeld w) (read_places w act) (places_after_reads w (plan_result w act)) (read_places_held w act)
     (places_behind_held w (plan_result w act))
 
-back : (w : World) (len : ℕ) (p : Place) → IsHeld (with_next_eip len w) p → IsHeld w p
-back w len (Dos at) h = h
-back w len (Block number at) h = h
-back w len Host h = h
-back w len Nothing h = h
+-- EIP moved back
+pub held_before : (w : World) (len : ℕ) (p : Place) → IsHeld (with_next_eip len w) p → IsHeld w p
+held_before w len (Dos at) h = h
+held_before w len (Block number at) h = h
+held_before w len Host h = h
+held_before w len Nothing h = h
 
 decoded_held : (w : World) (d : Decoded) → AreHeld w (touched_by_decoded w d)
 decoded_held w (Whole insn len) =
     let act = client_row (with_next_eip len w) insn len in
-    All-weaker (IsHeld (with_next_eip len w)) (IsHeld w) (back w len) (touched_by_instruction (with_next_eip len w) act)
+    All-weaker (IsHeld (with_next_eip len w)) (IsHeld w) (held_before w len) (touched_by_instruction (with_next_eip len w) act)
     (executed_held (with_next_eip len w) act)
 decoded_held w More = All-nil (IsHeld w)
 decoded_held w Invalid = All-nil (IsHeld w)

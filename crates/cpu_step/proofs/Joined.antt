@@ -1,35 +1,24 @@
 -- The touches of an instruction are the places that it reads and writes.
 use Rattle.std.proofs.Common.{◌≡◌, ℕ, zero, suc, ◌+◌, ◌^◌, ◌<◌, ◌≤◌, Bool, true, false, List, [], ◌∷◌, ◌++◌, refl, ap, sym, ◌∙◌}
 use Rattle.std.proofs.Common.{append_assoc, append-nil, subst, if◌then◌else◌, Option, None, Some, Result, Ok, Err, arith}
+use Rattle.std.proofs.{lemmas.Bool.Decides.{nat_tests}, lemmas.List.Elements.{All-nil, All-cons, All-append}}
 use Rattle.std.specs.Prelude.{All, nat_lt, nat_le, not, ◌&&◌, ◌*◌}
-use Rattle.std.proofs.lemmas.Bool.Decides.{nat_tests}
-use Rattle.std.proofs.lemmas.List.Elements.{All-nil, All-cons, All-append}
-use Rattle.client_world.specs.declared.faults.Event.{Event}
-use Rattle.client_world.specs.declared.faults.Fault.{Fault}
-use Rattle.client_world.specs.declared.place.Place.{Place}
-use Rattle.client_world.specs.declared.place.Place.TheVariants.{Nothing}
-use Rattle.client_world.specs.declared.registers.Mode.{Mode}
-use Rattle.client_world.specs.declared.registers.Mode.TheVariants.{Real, Protected}
-use Rattle.client_world.specs.declared.registers.Regs.{Regs}
-use Rattle.client_world.specs.declared.segments.SegReg.{SegReg}
-use Rattle.client_world.specs.declared.memory_map.TheConstants.{PARAGRAPH_SIZE, SEGMENT_SIZE}
-use Rattle.client_world.specs.Descriptor.{is_inside, is_writable}
-use Rattle.client_world.specs.Access.{access, suits_register, segment_base, base_in_row, places_at, places_from, place_in, linear}
-use Rattle.client_world.specs.Access.{first_forbidden, unless_forbidden, may_touch}
-use Rattle.client_world.specs.Segments.{selector}
-use Rattle.client_world.specs.Selector.{Row, is_null, row_of_selector}
-use Rattle.client_world.specs.World.{World, MemoryBlock}
-use Rattle.guest_space.specs.declared.pending.Write.{Write}
-use Rattle.guest_space.specs.Pending.{byte_count}
-use Rattle.guest_space.specs.SegmentRows.{first_byte, base_of_row}
+use Rattle.client_world.specs.{declared.faults.Event.{Event}, declared.faults.Fault.{Fault}, declared.place.Place.{Place}}
+use Rattle.client_world.specs.{declared.place.Place.TheVariants.{Nothing}, declared.registers.Mode.{Mode}}
+use Rattle.client_world.specs.{declared.registers.Mode.TheVariants.{Real, Protected}, declared.registers.Regs.{Regs}}
+use Rattle.client_world.specs.{declared.segments.SegReg.{SegReg}, declared.memory_map.TheConstants.{PARAGRAPH_SIZE, SEGMENT_SIZE}}
+use Rattle.client_world.specs.{Descriptor.{is_inside, is_writable}, Access.{access, suits_register, segment_base, base_in_row, places_at}}
+use Rattle.client_world.specs.{Access.{places_from, place_in, linear, first_forbidden, unless_forbidden, may_touch}, Segments.{selector}}
+use Rattle.client_world.specs.{Selector.{Row, is_null, row_of_selector}, World.{World, MemoryBlock}, declared.watchpoints.Touch.{Touch}}
+use Rattle.guest_space.specs.{declared.pending.Write.{Write}, Pending.{byte_count}, SegmentRows.{first_byte, base_of_row}}
 use Rattle.guest_space.specs.Transfer.{access_fault, fault_of, places_of_access, read_result, bytes_at}
-use Rattle.insn_plan.specs.declared.accesses.Access.{Access}
-use Rattle.client_world.specs.declared.watchpoints.Touch.{Touch}
-use Rattle.insn_plan.specs.Accesses.{and_read, and_writes, accesses_after, touch_of_access, touch_of, touches_after, touches_where, touches}
-use Rattle.insn_plan.specs.Act.{Act, End, Read, Done, Raise, Interrupt, Input, Given, From, Pending, value_of, number_read}
-use Rattle.insn_plan.specs.Plan.{plan_result}
+use Rattle.insn_plan.specs.{declared.accesses.Access.{Access}, Accesses.{and_read, and_writes, accesses_after, touch_of_access, touch_of}}
+use Rattle.insn_plan.specs.{Accesses.{touches_after, touches_where, touches}, Act.{Act, End, Read, Done, Raise, Interrupt, Input, Given}}
+use Rattle.insn_plan.specs.{Act.{From, Pending, value_of, number_read}, Plan.{plan_result}}
 use Rattle.cpu_step.specs.Touched.{and_then, input_read, read_places, write_places, places_after_reads, touched_by_instruction}
 use Rattle.cpu_step.specs.Touched.{touch_places, DoesNotWrap}
+use Rattle.guest_space.proofs.Runs.{linear_run}
+use Rattle.client_world.proofs.PlaceLaws.{allowed-both}
 
 -- ---- one access
 
@@ -51,7 +40,7 @@ granted_then w a more e = then_places (access w a.seg a.off a.count a.write) mor
 
 -- ---- where its bytes are
 
-past : (c : Bool) (f : Fault) (r : Result ℕ Fault) (base : ℕ) → (if c then Err f else r) ≡ Ok base → r ≡ Ok base
+pub past : (c : Bool) (f : Fault) (r : Result ℕ Fault) (base : ℕ) → (if c then Err f else r) ≡ Ok base → r ≡ Ok base
 past true f r base e = absurd cc
 past false f r base e = e
 
@@ -111,17 +100,6 @@ access_run w a e =
     based_run w.blocks (segment_base w.mode w.regs w.descriptors a.seg a.off a.count a.write) _ a.off a.count a.write
     (base_first w.mode w.regs w.descriptors a.seg a.off a.count a.write) e
 
--- the addresses of a run count modulo 2^32
-same_run : (blocks : List (Option MemoryBlock)) (a b n : ℕ) → linear a ≡ linear b → places_from blocks a n ≡ places_from blocks b n
-unfolding places_from
-same_run blocks a b zero e = refl
-same_run blocks a b (suc n) e =
-    let next : linear (a + 1) ≡ linear (b + 1) = omega arith in
-    cc (same_run blocks (a + 1) (b + 1) n next)
-
-run_again : (blocks : List (Option MemoryBlock)) (at n : ℕ) → places_from blocks (linear at) n ≡ places_from blocks at n
-run_again blocks at n = same_run blocks (linear at) at n (omega arith)
-
 -- the last address shows nothing, so no run goes past it
 nothing_last : (blocks : List (Option MemoryBlock)) → place_in blocks 0xFFFFFFFF ≡ Nothing
 unfolding place_in
@@ -135,17 +113,13 @@ before_last blocks at write false e less may =
     let shows = ap (λ (n : ℕ). place_in blocks n) last ∙ nothing_last blocks in
     absurd (cc (sym may ∙ ap (λ (p : Place). may_touch p write) shows))
 
-allowed_parts : (c : Bool) (rest : Option Place) (p : Place) → (if c then rest else Some p) ≡ None → (c ≡ true) × (rest ≡ None)
-allowed_parts true rest p e = (refl, e)
-allowed_parts false rest p e = absurd cc
-
 run_inside : (blocks : List (Option MemoryBlock)) (at n : ℕ) (write : Bool) → at < 2 ^ 32 →
     first_forbidden (places_from blocks at n) write ≡ None → at + n ≤ 2 ^ 32
 unfolding places_from
 run_inside blocks at zero write less e = omega arith
 run_inside blocks at (suc n) write less e =
     let p = place_in blocks (linear at) in
-    let parts = allowed_parts (may_touch p write) (first_forbidden (places_from blocks (at + 1) n) write) p e in
+    let parts = allowed-both (may_touch p write) (first_forbidden (places_from blocks (at + 1) n) write) p e in
     let rest = run_inside blocks (at + 1) n write (before_last blocks at write (nat_lt (at + 1) (2 ^ 32)) refl less parts.0) parts.1 in
     omega (arith, rest)
 
@@ -166,7 +140,7 @@ touch_is : (w : World) (a : Access) → IsGranted w a → IsTouch w a (touch_of 
 touch_is w a e =
     let run = access_run w a e in
     let at = start_of w a in
-    let again = run_again w.blocks at a.count in
+    let again = linear_run w.blocks at a.count in
     let start : linear at < 2 ^ 32 = omega arith in
     record {
       granted = e;

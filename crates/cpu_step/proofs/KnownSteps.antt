@@ -1,8 +1,7 @@
 -- A step of an instruction that is known already.
 use Rattle.std.proofs.Common.{◌≡◌, ℕ, Bool, List, sym, ap, ◌∙◌}
 use Rattle.host_memory.specs.View.{MachineView}
-use Rattle.insn_decode.specs.declared.decoding.Decoded.TheVariants.{Whole}
-use Rattle.insn_decode.specs.Decode.{decoded}
+use Rattle.insn_decode.specs.{declared.decoding.Decoded.TheVariants.{Whole}, Decode.{decoded}}
 use Rattle.insn_forms.specs.declared.insn.Insn.{Insn}
 use Rattle.cpu_step.specs.Step.{client_step, code, after_instruction, has_big_code, step_of}
 

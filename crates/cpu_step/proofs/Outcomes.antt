@@ -1,20 +1,14 @@
 -- What the grammar says of the next instruction is what reading its bytes from left to right gives.
 use Rattle.std.proofs.Common.{◌≡◌, ℕ, ◌+◌, ◌<◌, ◌≤◌, ◌⊎◌, inl, inr, false, List, ◌++◌, length, take, drop, refl, ap, ◌∙◌, sym, arith}
-use Rattle.std.proofs.Common.{zero-add, Result, Err}
-use Rattle.std.specs.Prelude.{nat_eq}
-use Rattle.std.proofs.lemmas.Bool.{cases_eq}
-use Rattle.std.proofs.lemmas.Bool.Decides.{nat_tests}
+use Rattle.std.proofs.{Common.{zero-add, Result, Err}, lemmas.Bool.{cases_eq}, lemmas.Bool.Decides.{nat_tests}}
 use Rattle.std.proofs.lemmas.List.{take-append-drop, length-take-le}
-use Rattle.client_world.specs.declared.faults.Event.{Event}
-use Rattle.client_world.specs.declared.faults.Event.TheVariants.{Fault as fault}
-use Rattle.client_world.specs.declared.faults.Fault.{Fault}
-use Rattle.client_world.specs.declared.faults.TheConstants.{GENERAL_PROTECTION}
-use Rattle.client_world.specs.Access.{fault_with}
+use Rattle.std.specs.Prelude.{nat_eq}
+use Rattle.client_world.specs.{declared.faults.Event.{Event}, declared.faults.Event.TheVariants.{Fault as fault}}
+use Rattle.client_world.specs.{declared.faults.Fault.{Fault}, declared.faults.TheConstants.{GENERAL_PROTECTION}, Access.{fault_with}}
 use Rattle.client_world.specs.World.{World}
 use Rattle.guest_space.specs.Code.{code_byte, code_room}
 use Rattle.host_memory.specs.View.{MachineView}
-use Rattle.insn_decode.specs.declared.decoding.Decoded.{Decoded}
-use Rattle.insn_decode.specs.declared.decoding.Decoded.TheVariants.{Whole, More, Invalid}
+use Rattle.insn_decode.specs.{declared.decoding.Decoded.{Decoded}, declared.decoding.Decoded.TheVariants.{Whole, More, Invalid}}
 use Rattle.insn_decode.specs.Decode.{decoded}
 use Rattle.insn_decode.proofs.Answering.{decoded_whole, decoded_only, decoded_more, more_decoded, decoded_invalid, invalid_decoded}
 use Rattle.insn_forms.specs.Grammar.{AllBytes, HasEncoding}

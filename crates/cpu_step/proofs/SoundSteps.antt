@@ -1,23 +1,17 @@
 -- A step of the client's leads from a sound world to a sound one.
 use Rattle.std.proofs.Common.{◌≡◌, ℕ, refl, Result, Ok, Err}
-use Rattle.client_world.specs.declared.faults.Event.{Event}
-use Rattle.client_world.specs.Soundness.{IsSound}
-use Rattle.client_world.specs.World.{World}
+use Rattle.client_world.specs.{declared.faults.Event.{Event}, Soundness.{IsSound}, World.{World}}
 use Rattle.client_world.proofs.SoundWrites.{IsSound-regs}
 use Rattle.exec_core.specs.Dispatch.{is_core, core_row}
 use Rattle.exec_flow.specs.Dispatch.{flow_row}
 use Rattle.host_memory.specs.View.{MachineView}
-use Rattle.insn_decode.specs.declared.decoding.Decoded.{Decoded}
-use Rattle.insn_decode.specs.declared.decoding.Decoded.TheVariants.{Whole, More, Invalid}
+use Rattle.insn_decode.specs.{declared.decoding.Decoded.{Decoded}, declared.decoding.Decoded.TheVariants.{Whole, More, Invalid}}
 use Rattle.insn_decode.specs.Decode.{decoded}
 use Rattle.insn_forms.specs.declared.insn.Insn.{Insn}
-use Rattle.insn_plan.specs.Act.{Act, Pending}
-use Rattle.insn_plan.specs.Plan.{plan_result, after_plan}
+use Rattle.insn_plan.specs.{Act.{Act, Pending}, Plan.{plan_result, after_plan}}
 use Rattle.cpu_step.specs.Step.{has_big_code, code, view_with_next_eip, client_row, after_instruction, step_of, client_step}
-use Rattle.cpu_step.proofs.CoreSegments.{core_leaves}
-use Rattle.cpu_step.proofs.FlowSegments.{flow_leaves}
-use Rattle.cpu_step.proofs.SegmentWords.{HoldWords, LeavesWords, words_of, segments_of, leaves_if, planned_words}
-use Rattle.cpu_step.proofs.SoundWritten.{sound_settled}
+use Rattle.cpu_step.proofs.{CoreSegments.{core_leaves}, FlowSegments.{flow_leaves}, SegmentWords.{HoldWords, LeavesWords, words_of}}
+use Rattle.cpu_step.proofs.{SegmentWords.{segments_of, leaves_if, planned_words}, SoundWritten.{sound_settled}}
 
 row_leaves : (w : World) (insn : Insn) (len : ℕ) → HoldWords w.regs → LeavesWords (client_row w insn len)
 unfolding client_row

@@ -1,22 +1,15 @@
 -- Writes leave a sound world sound, and so does a plan whose segment registers hold words.
 use Rattle.std.proofs.Common.{◌≡◌, ℕ, zero, suc, ◌/◌, ◌%◌, ◌<◌, List, [], ◌∷◌, length, slice_index, refl, sym, subst, arith, nat_eq}
 use Rattle.std.proofs.Common.{if◌then◌else◌, Bool, true, false, Option, None, Some, Result, Ok, Err}
-use Rattle.client_world.specs.declared.faults.Event.{Event}
-use Rattle.client_world.specs.declared.faults.Event.TheVariants.{Fault as fault}
-use Rattle.client_world.specs.declared.faults.Fault.{Fault}
-use Rattle.client_world.specs.declared.place.Place.{Place}
-use Rattle.client_world.specs.Access.{access, with_bytes_of}
-use Rattle.client_world.specs.Soundness.{IsSound, HasSegments}
-use Rattle.client_world.specs.World.{World}
+use Rattle.client_world.specs.{declared.faults.Event.{Event}, declared.faults.Event.TheVariants.{Fault as fault}}
+use Rattle.client_world.specs.{declared.faults.Fault.{Fault}, declared.place.Place.{Place}, Access.{access, with_bytes_of}}
+use Rattle.client_world.specs.{Soundness.{IsSound, HasSegments}, World.{World}}
 use Rattle.client_world.proofs.SoundWrites.{MayWrite, IsSound-with_bytes_of, IsSound-regs, IsSound-vif}
-use Rattle.guest_space.specs.declared.pending.Write.{Write}
-use Rattle.guest_space.specs.Pending.{byte_count, number_bytes, after_write, first_write_fault, after_writes}
-use Rattle.guest_space.specs.Transfer.{places_of_access, after_store}
-use Rattle.guest_space.proofs.Machines.{with_places_world}
-use Rattle.guest_space.proofs.OnlyWritten.{write_places}
+use Rattle.guest_space.specs.{declared.pending.Write.{Write}, Pending.{byte_count, number_bytes, after_write, first_write_fault}}
+use Rattle.guest_space.specs.{Pending.{after_writes}, Transfer.{places_of_access, after_store}}
+use Rattle.guest_space.proofs.{Machines.{with_places_world}, OnlyWritten.{write_places}}
 use Rattle.host_memory.specs.View.{MachineView}
-use Rattle.insn_plan.specs.Act.{Pending}
-use Rattle.insn_plan.specs.Plan.{after_commit, with_state}
+use Rattle.insn_plan.specs.{Act.{Pending}, Plan.{after_commit, with_state}}
 
 -- ---- what is written are bytes
 

@@ -1,24 +1,16 @@
 -- A window of code outlives a step that keeps CS.
 use Rattle.std.proofs.Common.{◌≡◌, ◌∙◌, ℕ, ap, sym, subst, refl, Option, None, Some, Result, Ok, Err}
 use Rattle.std.specs.Prelude.{OnOk}
-use Rattle.client_world.specs.declared.faults.Event.{Event}
-use Rattle.client_world.specs.declared.faults.Event.TheVariants.{Fault as fault}
-use Rattle.client_world.specs.declared.faults.Fault.{Fault}
-use Rattle.client_world.specs.declared.registers.Regs.{Regs}
-use Rattle.client_world.specs.World.{World}
-use Rattle.guest_space.specs.declared.windows.CodeWindow.{CodeWindow}
-use Rattle.guest_space.specs.Machines.{HoldsItsWorld}
-use Rattle.guest_space.specs.Pending.{after_writes, first_write_fault}
+use Rattle.client_world.specs.{declared.faults.Event.{Event}, declared.faults.Event.TheVariants.{Fault as fault}}
+use Rattle.client_world.specs.{declared.faults.Fault.{Fault}, declared.registers.Regs.{Regs}, World.{World}}
+use Rattle.guest_space.specs.{declared.windows.CodeWindow.{CodeWindow}, Machines.{HoldsItsWorld}, Pending.{after_writes, first_write_fault}}
 use Rattle.guest_space.specs.Windows.{IsWindow}
 use Rattle.guest_space.proofs.WindowLaws.{window_of_cs, window_written}
-use Rattle.host_memory.specs.Layout.{world_of}
-use Rattle.host_memory.specs.View.{MachineView}
-use Rattle.insn_decode.specs.declared.decoding.Decoded.{Decoded}
-use Rattle.insn_decode.specs.declared.decoding.Decoded.TheVariants.{Whole, More, Invalid}
+use Rattle.host_memory.specs.{Layout.{world_of}, View.{MachineView}}
+use Rattle.insn_decode.specs.{declared.decoding.Decoded.{Decoded}, declared.decoding.Decoded.TheVariants.{Whole, More, Invalid}}
 use Rattle.insn_decode.specs.Decode.{decoded}
 use Rattle.insn_forms.specs.declared.insn.Insn.{Insn}
-use Rattle.insn_plan.specs.Act.{Pending}
-use Rattle.insn_plan.specs.Plan.{Follows, after_commit, after_plan, plan_result, with_state}
+use Rattle.insn_plan.specs.{Act.{Pending}, Plan.{Follows, after_commit, after_plan, plan_result, with_state}}
 use Rattle.insn_plan.proofs.WrittenState.{all_state}
 use Rattle.cpu_step.specs.Step.{view_with_next_eip, client_row, client_step, code, after_instruction, has_big_code, step_of}
 use Rattle.cpu_step.proofs.SoundSteps.{sound_behind}

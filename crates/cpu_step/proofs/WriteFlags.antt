@@ -1,17 +1,12 @@
 -- The touches that write have the places that an instruction writes.
-use Rattle.std.proofs.Common.{◌≡◌, ℕ, Bool, false, List, [], ◌∷◌, ◌++◌, refl, ap, sym, ◌∙◌, append_assoc, append-nil, subst}
-use Rattle.std.proofs.Common.{if◌then◌else◌, Some, Result, Ok, Err}
-use Rattle.client_world.specs.declared.faults.Event.{Event}
-use Rattle.client_world.specs.declared.place.Place.{Place}
-use Rattle.client_world.specs.Access.{places_from}
-use Rattle.client_world.specs.World.{World}
-use Rattle.guest_space.specs.declared.pending.Write.{Write}
-use Rattle.guest_space.specs.Pending.{places_of_writes}
-use Rattle.insn_plan.specs.declared.accesses.Access.{Access}
+use Rattle.std.proofs.Common.{◌≡◌, ℕ, Bool, false, List, [], ◌∷◌, ◌++◌, refl, ap, sym, ◌∙◌, append_assoc, append-nil, subst, if◌then◌else◌}
+use Rattle.std.proofs.Common.{Some, Result, Ok, Err}
+use Rattle.client_world.specs.{declared.faults.Event.{Event}, declared.place.Place.{Place}, Access.{places_from}, World.{World}}
 use Rattle.client_world.specs.declared.watchpoints.Touch.{Touch}
-use Rattle.insn_plan.specs.Accesses.{and_read, and_writes, accesses_after, touch_of_access, touches_after, touches}
-use Rattle.insn_plan.specs.Act.{Act, End, Read, Done, Raise, Interrupt, Input, Given, From, Pending, value_of}
-use Rattle.insn_plan.specs.Plan.{plan_result}
+use Rattle.guest_space.specs.{declared.pending.Write.{Write}, Pending.{places_of_writes}}
+use Rattle.insn_plan.specs.{declared.accesses.Access.{Access}, Accesses.{and_read, and_writes, accesses_after, touch_of_access}}
+use Rattle.insn_plan.specs.{Accesses.{touches_after, touches}, Act.{Act, End, Read, Done, Raise, Interrupt, Input, Given, From, Pending}}
+use Rattle.insn_plan.specs.{Act.{value_of}, Plan.{plan_result}}
 use Rattle.cpu_step.specs.Touched.{written_touch_places}
 use Rattle.cpu_step.proofs.Joined.{access_of, access_places, first_by, follow_by, granted_touch, known}
 

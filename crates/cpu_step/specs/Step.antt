@@ -1,27 +1,18 @@
 -- One instruction of the client: twice, as what the grammar says of the code bytes, and as what reading them from left to right gives.
 -- Source: 80386 Programmer's Reference Manual, ch. 9 and 17; which of several exceptions is raised, and that an instruction of more than 15
 -- bytes is a general protection fault with code 0 before its next byte is fetched, is own.
-use Rattle.std.specs.Prelude.{◌≡◌, ◌<◌, ℕ, Bool, List, ◌++◌, length, Ok, Err, nat_eq, if◌then◌else◌}
-use Rattle.std.specs.declared.result.Result.{Result}
-use Rattle.client_world.specs.declared.faults.Event.{Event}
-use Rattle.client_world.specs.declared.faults.Event.TheVariants.{Fault as fault}
-use Rattle.client_world.specs.declared.faults.Fault.{Fault}
-use Rattle.client_world.specs.declared.faults.TheConstants.{GENERAL_PROTECTION, INVALID_OPCODE}
-use Rattle.client_world.specs.Access.{fault_with}
-use Rattle.client_world.specs.World.{World}
+use Rattle.std.specs.{Prelude.{◌≡◌, ◌<◌, ℕ, Bool, List, ◌++◌, length, Ok, Err, nat_eq, if◌then◌else◌}, declared.result.Result.{Result}}
+use Rattle.client_world.specs.{declared.faults.Event.{Event}, declared.faults.Event.TheVariants.{Fault as fault}}
+use Rattle.client_world.specs.{declared.faults.Fault.{Fault}, declared.faults.TheConstants.{GENERAL_PROTECTION, INVALID_OPCODE}}
+use Rattle.client_world.specs.{Access.{fault_with}, World.{World}}
 use Rattle.exec_core.specs.Dispatch.{is_core, core_row}
 use Rattle.exec_flow.specs.Dispatch.{flow_row}
-use Rattle.guest_space.specs.Code.{code_byte, code_from, code_room}
-use Rattle.guest_space.specs.SegmentRows.{is_big}
+use Rattle.guest_space.specs.{Code.{code_byte, code_from, code_room}, SegmentRows.{is_big}}
 use Rattle.host_memory.specs.View.{MachineView}
-use Rattle.insn_decode.specs.declared.decoding.Decoded.{Decoded}
-use Rattle.insn_decode.specs.declared.decoding.Decoded.TheVariants.{Whole, More, Invalid}
+use Rattle.insn_decode.specs.{declared.decoding.Decoded.{Decoded}, declared.decoding.Decoded.TheVariants.{Whole, More, Invalid}}
 use Rattle.insn_decode.specs.Decode.{decoded}
-use Rattle.insn_forms.specs.declared.insn.Insn.{Insn}
-use Rattle.insn_forms.specs.Grammar.{Encoding, HasEncoding, BeginsEncoding}
-use Rattle.insn_plan.specs.Accesses.{with_next_eip}
-use Rattle.insn_plan.specs.Act.{Act}
-use Rattle.insn_plan.specs.Plan.{plan_result, after_plan}
+use Rattle.insn_forms.specs.{declared.insn.Insn.{Insn}, Grammar.{Encoding, HasEncoding, BeginsEncoding}}
+use Rattle.insn_plan.specs.{Accesses.{with_next_eip}, Act.{Act}, Plan.{plan_result, after_plan}}
 
 -- operands and addresses have 32 bits where nothing else is said: the code segment has D = 1
 unfoldable pub has_big_code : World → Bool

@@ -3,26 +3,15 @@
 -- accessed after it. Source: own.
 use Rattle.std.specs.Prelude.{ℕ, zero, suc, ◌+◌, ◌*◌, ◌^◌, ◌≤◌, true, false, List, [], ◌∷◌, ◌++◌, Ok, Err, None, Some, if◌then◌else◌}
 use Rattle.std.specs.declared.result.Result.{Result}
-use Rattle.client_world.specs.declared.faults.Event.{Event}
-use Rattle.client_world.specs.declared.faults.Event.TheVariants.{Fault as fault, Soft}
-use Rattle.client_world.specs.declared.faults.Fault.{Fault}
-use Rattle.client_world.specs.declared.place.Place.{Place}
-use Rattle.client_world.specs.declared.place.Place.TheVariants.{Dos}
-use Rattle.client_world.specs.declared.registers.Mode.TheVariants.{Real, Protected}
-use Rattle.client_world.specs.declared.segments.SegReg.TheVariants.{Cs}
-use Rattle.client_world.specs.Access.{access, places_from}
-use Rattle.client_world.specs.World.{World}
+use Rattle.client_world.specs.{declared.faults.Event.{Event}, declared.faults.Event.TheVariants.{Fault as fault, Soft}}
+use Rattle.client_world.specs.{declared.faults.Fault.{Fault}, declared.place.Place.{Place}, declared.place.Place.TheVariants.{Dos}}
+use Rattle.client_world.specs.{declared.registers.Mode.TheVariants.{Real, Protected}, declared.segments.SegReg.TheVariants.{Cs}}
+use Rattle.client_world.specs.{Access.{access, places_from}, World.{World}, declared.watchpoints.Touch.{Touch}}
 use Rattle.exec_flow.specs.Interrupts.{interrupt_push}
-use Rattle.guest_space.specs.Code.{code_room}
-use Rattle.guest_space.specs.declared.pending.Write.{Write}
-use Rattle.guest_space.specs.Pending.{byte_count, first_write_fault}
-use Rattle.insn_decode.specs.declared.decoding.Decoded.{Decoded}
-use Rattle.insn_decode.specs.declared.decoding.Decoded.TheVariants.{Whole, More, Invalid}
+use Rattle.guest_space.specs.{Code.{code_room}, declared.pending.Write.{Write}, Pending.{byte_count, first_write_fault}}
+use Rattle.insn_decode.specs.{declared.decoding.Decoded.{Decoded}, declared.decoding.Decoded.TheVariants.{Whole, More, Invalid}}
 use Rattle.insn_decode.specs.Decode.{decoded}
-use Rattle.client_world.specs.declared.watchpoints.Touch.{Touch}
-use Rattle.insn_plan.specs.Accesses.{with_next_eip}
-use Rattle.insn_plan.specs.Act.{Act, End, Read, Input, Given, From, Pending, value_of}
-use Rattle.insn_plan.specs.Plan.{plan_result}
+use Rattle.insn_plan.specs.{Accesses.{with_next_eip}, Act.{Act, End, Read, Input, Given, From, Pending, value_of}, Plan.{plan_result}}
 use Rattle.cpu_step.specs.Step.{has_big_code, code, client_row}
 
 -- the places of an access, and of what comes after it where it doesn't fault

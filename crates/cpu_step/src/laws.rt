@@ -1,19 +1,12 @@
 // What holds of every step. Each is a function with nothing to do: its contract is the law.
-ghost use Rattle.std.specs.Prelude.{◌≡◌, All, IsErr, IsOk, List, None, Ok, Some};
-ghost use Rattle.std.specs.declared.result.Result.{Result};
-ghost use Rattle.client_world.specs.declared.faults.Event.{Event as AnEvent};
-ghost use Rattle.client_world.specs.Access.{IsHeld};
-ghost use Rattle.client_world.specs.Soundness.{IsSound};
-ghost use Rattle.client_world.specs.World.{World};
+ghost use Rattle.std.specs.{Prelude.{◌≡◌, All, IsErr, IsOk, List, None, Ok, Some}, declared.result.Result.{Result}};
+ghost use Rattle.client_world.specs.{declared.faults.Event.{Event as AnEvent}, Access.{IsHeld}, Soundness.{IsSound}, World.{World}};
+ghost use Rattle.client_world.specs.declared.watchpoints.Touch.{Touch};
 ghost use Rattle.host_memory.specs.View.{MachineView};
-ghost use Rattle.cpu_step.specs.Step.{IsStep, client_step};
-ghost use Rattle.cpu_step.specs.Touched.{DoesNotWrap, touched_by_instruction, touch_places, touched_by_step};
+ghost use Rattle.cpu_step.specs.{Step.{IsStep, client_step}, Touched.{DoesNotWrap, touched_by_instruction, touch_places, touched_by_step}};
 ghost use Rattle.cpu_step.specs.Touched.{written_touch_places};
 ghost use Rattle.guest_space.specs.Pending.{places_of_writes};
-ghost use Rattle.client_world.specs.declared.watchpoints.Touch.{Touch};
-ghost use Rattle.insn_plan.specs.Accesses.{touches};
-ghost use Rattle.insn_plan.specs.Act.{Act, Pending};
-ghost use Rattle.insn_plan.specs.Plan.{after_plan, plan_result};
+ghost use Rattle.insn_plan.specs.{Accesses.{touches}, Act.{Act, Pending}, Plan.{after_plan, plan_result}};
 
 /// In a sound world what the grammar says of the client's next instruction is one outcome, and is what reading its bytes from left to
 /// right gives. Source: own.

@@ -1,12 +1,9 @@
 -- A service changes registers, memory and descriptors alone.
 use Rattle.std.proofs.Common.{◌≡◌, ◌∙◌, ℕ, refl, sym, ap, Option, None, Some}
-use Rattle.client_world.specs.Selector.{Row}
-use Rattle.client_world.specs.Services.{bx, cx, desc_of, es_di}
-use Rattle.client_world.specs.World.{World}
+use Rattle.client_world.specs.{Selector.{Row}, Services.{bx, cx, desc_of, es_di}, World.{World}}
 use Rattle.guest_space.specs.Transfer.{HasOtherMemory}
 use Rattle.guest_space.proofs.FarPuts.{other_far_put}
-use Rattle.service_rows.specs.FreeRun.{first_free_run}
-use Rattle.service_rows.specs.Reasons.{Service, first_reason, unsupported}
+use Rattle.service_rows.specs.{FreeRun.{first_free_run}, Reasons.{Service, first_reason, unsupported}}
 use Rattle.desc_services.specs.Rows.{with_new_alias, descriptor_function, free_descriptor, get_segment_base, get_descriptor, with_new_run}
 use Rattle.desc_services.specs.Rows.{allocate_descriptors, create_alias, allocate_specific, segment_to_descriptor, with_segment}
 use Rattle.desc_services.specs.Rows.{segment_index, with_new_segment, descriptor_service, set_segment_base, set_segment_limit}

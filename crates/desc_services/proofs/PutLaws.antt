@@ -1,23 +1,16 @@
 -- Where a row may be put.
 use Rattle.std.proofs.Common.{◌≡◌, ◌≢◌, ◌≤◌, ℕ, ◌<◌, Bool, true, false, inl, inr, List, refl, ◌∙◌, sym, subst, ap, arith, Option, None}
-use Rattle.std.proofs.Common.{Some}
+use Rattle.std.proofs.{Common.{Some}, lemmas.Bool.{cases_lt, true≢false}, lemmas.List.{get_or_past}}
 use Rattle.std.specs.Option.{is_some}
-use Rattle.std.proofs.lemmas.Bool.{cases_lt, true≢false}
-use Rattle.std.proofs.lemmas.List.{get_or_past}
-use Rattle.client_world.specs.declared.descriptors.Desc.{Desc}
-use Rattle.client_world.specs.declared.descriptors.Origin.{Origin}
+use Rattle.client_world.specs.{declared.descriptors.Desc.{Desc}, declared.descriptors.Origin.{Origin}}
 use Rattle.client_world.specs.declared.descriptors.Origin.TheVariants.{Own, Low, Entry, Psp, Segment, Dos, Host}
-use Rattle.client_world.specs.declared.registers.Width.{Width}
-use Rattle.client_world.specs.declared.host_frames.TheConstants.{DESCRIPTORS, FIRST_FREE_DESCRIPTOR}
-use Rattle.client_world.specs.Descriptor.{FitsDescriptor}
-use Rattle.client_world.specs.FreeRuns.{IsFreeRunOf}
-use Rattle.client_world.specs.Selector.{Row, FitsRow, row_at_index, row_of_selector, index_of, is_local}
-use Rattle.client_world.specs.Services.{is_changeable_origin}
-use Rattle.client_world.specs.Soundness.{IsSound, SoundWidth, IsOfDosBlock, IsPlainOrigin, IsPlainRow, IsClientsIndex}
-use Rattle.client_world.specs.World.{World}
+use Rattle.client_world.specs.{declared.registers.Width.{Width}, declared.host_frames.TheConstants.{DESCRIPTORS, FIRST_FREE_DESCRIPTOR}}
+use Rattle.client_world.specs.{Descriptor.{FitsDescriptor}, FreeRuns.{IsFreeRunOf}, Selector.{Row, FitsRow, row_at_index, row_of_selector}}
+use Rattle.client_world.specs.{Selector.{index_of, is_local}, Services.{is_changeable_origin}, Soundness.{IsSound, SoundWidth}}
+use Rattle.client_world.specs.{Soundness.{IsOfDosBlock, IsPlainOrigin, IsPlainRow, IsClientsIndex}, World.{World}}
 use Rattle.client_world.proofs.SoundRows.{IsSound-row, high_is_clients, none_not_dos, plain_not_dos}
-use Rattle.desc_services.specs.MayPut.{MayPut}
-use Rattle.desc_services.specs.Rows.{is_freeable_origin}
+use Rattle.desc_services.specs.{MayPut.{MayPut}, Rows.{is_freeable_origin}}
+use Rattle.desc_table.proofs.RunLaws.{none_of}
 
 none_some : (r : Desc × Origin) → None ≢ Some r
 none_some r e = cc
@@ -136,14 +129,10 @@ pub may_free : (w : World) (sel : ℕ) (row : Desc × Origin) → IsSound w → 
 may_free w sel row s e freeable =
     may_change w (index_of sel) row None s (row_of_held w.descriptors sel row e) (freeable_plain row.1 freeable) tt tt
 
-no_row : (row : Row) → is_some row ≡ false → row ≡ None
-no_row None e = refl
-no_row (Some row) e = cc
-
 pub may_make_low : (w : World) (sel : ℕ) (d : Desc) → IsSound w → w.width ≢ None → is_local sel ≡ true → index_of sel < 16 →
     is_some (row_of_selector w.descriptors sel) ≡ false → FitsDescriptor d → MayPut w (index_of sel) (Some (d, Low))
 may_make_low w sel d s width local low free fits =
-    may_make w (index_of sel) (Some (d, Low)) s width (no_row (row_at_index w.descriptors (index_of sel)) (rw local at free)) (omega arith)
+    may_make w (index_of sel) (Some (d, Low)) s width (none_of (row_at_index w.descriptors (index_of sel)) (rw local at free)) (omega arith)
     (low_is_clients (index_of sel) low) fits tt
 
 -- at the first of free rows, from 64 on, a descriptor may be made

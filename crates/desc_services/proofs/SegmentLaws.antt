@@ -1,18 +1,13 @@
 -- Descriptors of real segments: the law of the search, and where a new one may be put.
-use Rattle.std.proofs.Common.{◌≡◌, ◌≢◌, ◌≤◌, ℕ, ◌<◌, true, refl, ◌∙◌, sym, subst, ap, arith, None, Some}
-use Rattle.std.proofs.lemmas.Bool.{eq-eqb, eqb-true, false_from_ne_true, true≢false}
-use Rattle.client_world.specs.declared.descriptors.Desc.{Desc}
-use Rattle.client_world.specs.declared.descriptors.Origin.{Origin}
+use Rattle.std.proofs.{Common.{◌≡◌, ◌≢◌, ◌≤◌, ℕ, ◌<◌, true, refl, ◌∙◌, sym, subst, ap, arith, None, Some}, lemmas.Bool.{eq-eqb, eqb-true}}
+use Rattle.std.proofs.lemmas.Bool.{false_from_ne_true, true≢false}
+use Rattle.client_world.specs.{declared.descriptors.Desc.{Desc}, declared.descriptors.Origin.{Origin}}
 use Rattle.client_world.specs.declared.descriptors.Origin.TheVariants.{Own, Low, Entry, Psp, Segment, Dos, Host}
-use Rattle.client_world.specs.declared.host_frames.TheConstants.{DESCRIPTORS, FIRST_FREE_DESCRIPTOR}
-use Rattle.client_world.specs.Descriptor.{FitsDescriptor}
-use Rattle.client_world.specs.FreeRuns.{IsFreeRunOf, IsFirstFreeRunOf}
-use Rattle.client_world.specs.Selector.{Row, row_at_index}
-use Rattle.client_world.specs.Soundness.{IsSound, HasOrigin}
+use Rattle.client_world.specs.{declared.host_frames.TheConstants.{DESCRIPTORS, FIRST_FREE_DESCRIPTOR}, Descriptor.{FitsDescriptor}}
+use Rattle.client_world.specs.{FreeRuns.{IsFreeRunOf, IsFirstFreeRunOf}, Selector.{Row, row_at_index}, Soundness.{IsSound, HasOrigin}}
 use Rattle.client_world.specs.World.{World}
 use Rattle.client_world.proofs.SoundRows.{clients_suits, high_is_clients, none_not_dos, row_keeps_sound}
-use Rattle.desc_services.specs.MayPut.{MayPut}
-use Rattle.desc_services.specs.Rows.{is_segment_origin, is_segment_row, segment_index}
+use Rattle.desc_services.specs.{MayPut.{MayPut}, Rows.{is_segment_origin, is_segment_row, segment_index}}
 use Rattle.service_rows.proofs.IndexLaws.{first_none, is_first}
 use Rattle.desc_services.proofs.PutLaws.{row_within}
 

@@ -1,54 +1,30 @@
 -- A service leads from a sound world to a sound one.
 use Rattle.std.proofs.Common.{◌≡◌, ◌≢◌, ◌≤◌, ◌<◌, ◌+◌, ◌*◌, ◌^◌, ℕ, zero, suc, Bool, true, false, not, List, refl, sym, subst, arith}
-use Rattle.std.proofs.Common.{slice_index, slice_set, Option, None, Some, nat_lt}
+use Rattle.std.proofs.{Common.{slice_index, slice_set, Option, None, Some, nat_lt}, lemmas.Bool.{ltb-false, not-false, or_parts}}
+use Rattle.std.proofs.lemmas.Bool.{true≢false}
 use Rattle.std.specs.Option.{is_some}
-use Rattle.std.proofs.lemmas.Bool.{ltb-false, not-false, or_parts, true≢false}
-use Rattle.client_world.specs.declared.descriptors.Desc.{Desc}
-use Rattle.client_world.specs.declared.descriptors.Origin.{Origin}
+use Rattle.client_world.specs.{declared.descriptors.Desc.{Desc}, declared.descriptors.Origin.{Origin}}
 use Rattle.client_world.specs.declared.descriptors.Origin.TheVariants.{Own, Segment}
-use Rattle.client_world.specs.declared.host_frames.TheConstants.{FIRST_FREE_DESCRIPTOR}
-use Rattle.client_world.specs.declared.memory_map.TheConstants.{PARAGRAPH_SIZE}
-use Rattle.client_world.specs.declared.registers.Mode.TheVariants.{Protected}
-use Rattle.client_world.specs.Descriptor.{FitsDescriptor}
-use Rattle.client_world.specs.FreeRuns.{IsFreeRunOf}
-use Rattle.client_world.specs.Registers.{has_bit}
-use Rattle.client_world.specs.Selector.{Row, FitsRow, index_of, is_local, row_at_index, row_of_selector}
-use Rattle.client_world.specs.Services.{bx, cx, dx, desc_of, es_di, is_changeable, is_changeable_origin, two_words}
-use Rattle.client_world.specs.Soundness.{IsSound}
+use Rattle.client_world.specs.{declared.host_frames.TheConstants.{FIRST_FREE_DESCRIPTOR}, declared.memory_map.TheConstants.{PARAGRAPH_SIZE}}
+use Rattle.client_world.specs.{declared.registers.Mode.TheVariants.{Protected}, Descriptor.{FitsDescriptor}, FreeRuns.{IsFreeRunOf}}
+use Rattle.client_world.specs.{Registers.{has_bit}, Selector.{Row, FitsRow, index_of, is_local, row_at_index, row_of_selector}}
+use Rattle.client_world.specs.{Services.{bx, cx, dx, desc_of, es_di, is_changeable, is_changeable_origin, two_words}, Soundness.{IsSound}}
 use Rattle.client_world.specs.World.{World}
-use Rattle.client_world.proofs.SoundWrites.{IsSound-regs}
+use Rattle.client_world.proofs.SoundWrites.{sound_general}
 use Rattle.desc_table.specs.Unpacked.{kind_of}
 use Rattle.guest_space.specs.Far.{far_bytes}
-use Rattle.service_rows.specs.FreeRun.{first_free_run}
-use Rattle.service_rows.specs.Reasons.{Service, first_reason, unsupported}
+use Rattle.service_rows.specs.{FreeRun.{first_free_run}, Reasons.{Service, first_reason, unsupported}, Rows.{data_at, with_row}}
 use Rattle.desc_services.specs.Rows.{with_new_alias, alias_of, descriptor_function, free_descriptor, fresh, get_segment_base}
 use Rattle.desc_services.specs.Rows.{get_descriptor, is_freeable_origin, is_freeable_row, desc_with_limit, with_new_run}
 use Rattle.desc_services.specs.Rows.{allocate_descriptors, create_alias, allocate_specific, segment_to_descriptor, packed_of, row_with_desc}
 use Rattle.desc_services.specs.Rows.{with_segment, segment_index, with_new_segment, descriptor_service, set_segment_base, set_segment_limit}
 use Rattle.desc_services.specs.Rows.{set_descriptor, set_access_rights, selector_increment, with_base, with_desc, with_limit, with_rights}
-use Rattle.desc_services.specs.Rows.{with_row, with_run}
-use Rattle.service_rows.specs.Rows.{data_at}
-use Rattle.service_rows.proofs.AnswerLaws.{no_reason, of_answer, sound_ax}
-use Rattle.guest_space.proofs.FarPuts.{sound_far_put}
-use Rattle.desc_services.proofs.EachService.{of_each_service}
-use Rattle.desc_services.proofs.FarBytes.{far_bytes_are_bytes, packed_bytes, unpacked_fits}
-use Rattle.desc_services.proofs.PutLaws.{changeable_plain, may_change, may_free, may_make_low, may_make_at, may_redescribe, row_of_held}
-use Rattle.service_rows.proofs.RunLaws.{free_run_of}
-use Rattle.service_rows.proofs.WidthLaws.{protected_width}
-use Rattle.desc_services.proofs.SegmentLaws.{may_make_segment_at}
-use Rattle.desc_services.proofs.WithRun.{free_tail, with_none, with_more}
-
--- ---- registers
-
-sound_general : (w : World) (a c d : ℕ) → IsSound w → IsSound (record w { regs = record w.regs { eax = a; ecx = c; edx = d } })
-sound_general w a c d s = IsSound-regs w (record w.regs { eax = a; ecx = c; edx = d }) s (record {
-  es = s.segments.es;
-  cs = s.segments.cs;
-  ss = s.segments.ss;
-  ds = s.segments.ds;
-  fs = s.segments.fs;
-  gs = s.segments.gs;
-})
+use Rattle.desc_services.specs.Rows.{with_run}
+use Rattle.service_rows.proofs.{AnswerLaws.{no_reason, of_answer, sound_ax}, RunLaws.{free_run_of}, WidthLaws.{protected_width}}
+use Rattle.guest_space.proofs.{FarPuts.{sound_far_put}, SoundBytes.{far_are_bytes}}
+use Rattle.desc_services.proofs.{EachService.{of_each_service}, FarBytes.{packed_bytes, unpacked_fits}, PutLaws.{changeable_plain}}
+use Rattle.desc_services.proofs.PutLaws.{may_change, may_free, may_make_low, may_make_at, may_redescribe, row_of_held}
+use Rattle.desc_services.proofs.{SegmentLaws.{may_make_segment_at}, WithRun.{free_tail, with_none, with_more}}
 
 -- ---- a descriptor with other fields
 
@@ -193,7 +169,7 @@ sound_after ax w s width = of_each_service (λ (a : Service). first_reason a.rea
   f1 = λ e. sound_free w (bx w) s (no_reason (free_descriptor w).reasons e).0;
   f2 = λ e. sound_segment w (segment_index w.descriptors (bx w)) s width refl;
   f3 = λ e. sound_ax w 8 s;
-  f6 = λ e. sound_general w w.regs.eax _ _ s;
+  f6 = λ e. sound_general w w.regs.eax w.regs.ebx _ _ w.regs.esi w.regs.edi s;
   f7 = λ e. described_sound w (bx w) _ s (no_reason (set_segment_base w).reasons e).0
       (λ d same. base_fits (desc_of w (bx w)) (two_words (cx w) (dx w)) d (fits_of w (bx w) s) (omega arith) same);
   f8 = λ e. described_sound w (bx w) _ s (no_reason (set_segment_limit w).reasons e).0
@@ -203,7 +179,7 @@ sound_after ax w s width = of_each_service (λ (a : Service). first_reason a.rea
   fA = λ e. sound_alias w (first_free_run w.descriptors 1) (desc_of w (bx w)) s width refl (fits_of w (bx w) s);
   fB = λ e. sound_far_put w (es_di w) 8 _ s (packed_of_bytes (desc_of w (bx w)) (fits_of w (bx w) s));
   fC = λ e. described_sound w (bx w) _ s (no_reason (set_descriptor w).reasons e).0
-      (λ d same. unpacked_fits (far_bytes w (es_di w) 8) d (far_bytes_are_bytes w (es_di w) 8 s) same);
+      (λ d same. unpacked_fits (far_bytes w (es_di w) 8) d (far_are_bytes w (es_di w) 8 s) same);
   fD = λ e. (let none = no_reason (allocate_specific w).reasons e in
       let place = or_parts (not (is_local (bx w))) (nat_lt 15 (index_of (bx w))) none.0 in
       let low = ltb-false 15 (index_of (bx w)) place.1 in

@@ -1,9 +1,7 @@
 -- When a row may be put at an index: what `set_desc` of the machine asks. Source: own.
 use Rattle.std.specs.Prelude.{◌≢◌, ℕ, ◌<◌, None, slice_set}
-use Rattle.client_world.specs.declared.host_frames.TheConstants.{DESCRIPTORS}
-use Rattle.client_world.specs.Selector.{Row, row_at_index}
-use Rattle.client_world.specs.Soundness.{IsSound, IsOfDosBlock}
-use Rattle.client_world.specs.World.{World}
+use Rattle.client_world.specs.{declared.host_frames.TheConstants.{DESCRIPTORS}, Selector.{Row, row_at_index}, Soundness.{IsSound}}
+use Rattle.client_world.specs.{Soundness.{IsOfDosBlock}, World.{World}}
 
 pub record MayPut (w : World) (index : ℕ) (row : Row) : Type 0 where
   pub within : index < DESCRIPTORS

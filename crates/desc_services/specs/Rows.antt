@@ -1,30 +1,17 @@
 -- The services of INT 31h on descriptors. Source: DPMI 0.9, INT 31h functions 0000h to 000Dh; what each refuses is own.
 use Rattle.std.specs.Prelude.{ℕ, zero, suc, ◌+◌, ◌*◌, ◌/◌, ◌%◌, Bool, true, false, ◌&&◌, ◌||◌, List, [], ◌∷◌, None, Some, is_none, nat_eq}
-use Rattle.std.specs.Prelude.{nat_lt, not, if◌then◌else◌, slice_set}
-use Rattle.std.specs.declared.option.Option.{Option}
-use Rattle.client_world.specs.declared.descriptors.Desc.{Desc}
-use Rattle.client_world.specs.declared.descriptors.Origin.{Origin}
+use Rattle.std.specs.{Prelude.{nat_lt, not, if◌then◌else◌, slice_set}, declared.option.Option.{Option}}
+use Rattle.client_world.specs.{declared.descriptors.Desc.{Desc}, declared.descriptors.Origin.{Origin}}
 use Rattle.client_world.specs.declared.descriptors.Origin.TheVariants.{Own, Low, Entry, Psp, Segment, Dos, Host}
-use Rattle.client_world.specs.declared.host_frames.TheConstants.{DESCRIPTORS}
-use Rattle.client_world.specs.declared.memory_map.TheConstants.{PARAGRAPH_SIZE}
-use Rattle.client_world.specs.Access.{is_reachable}
-use Rattle.client_world.specs.Descriptor.{is_code, packed}
-use Rattle.client_world.specs.Registers.{has_bit, high_byte, low_byte, with_low_half}
-use Rattle.client_world.specs.Selector.{Row, index_of, is_local, row_at_index, selector_of}
-use Rattle.client_world.specs.Services.{Served, bx, cx, dx, desc_of, es_di, is_changeable, is_held, two_words}
-use Rattle.client_world.specs.World.{World}
+use Rattle.client_world.specs.{declared.host_frames.TheConstants.{DESCRIPTORS}, declared.memory_map.TheConstants.{PARAGRAPH_SIZE}}
+use Rattle.client_world.specs.{Access.{is_reachable}, Descriptor.{is_code, packed}, Registers.{has_bit, high_byte, low_byte, with_low_half}}
+use Rattle.client_world.specs.{Selector.{Row, index_of, is_local, row_at_index, selector_of}, Services.{Served, bx, cx, dx, desc_of, es_di}}
+use Rattle.client_world.specs.{Services.{is_changeable, is_held, two_words}, World.{World}}
 use Rattle.desc_table.specs.Unpacked.{is_access_byte, is_packed, kind_of, unpacked}
-use Rattle.guest_space.specs.Far.{far_bytes, world_after_far_write}
-use Rattle.guest_space.specs.SegmentRows.{base_of_row}
+use Rattle.guest_space.specs.{Far.{far_bytes, world_after_far_write}, SegmentRows.{base_of_row}}
 use Rattle.service_rows.specs.declared.refusal.Refusal.TheVariants.{InvalidSelector, InvalidValue, InvalidAddress, DescriptorUnavailable}
-use Rattle.service_rows.specs.FirstIndex.{first_index}
-use Rattle.service_rows.specs.FreeRun.{first_free_run}
-use Rattle.service_rows.specs.Reasons.{Service, family_outcome, unsupported}
-use Rattle.service_rows.specs.Rows.{data_at, with_ax}
-
--- the world with another row at an index
-abbrev pub with_row : ℕ → Row → World → World
-with_row index row w = record w { descriptors = slice_set w.descriptors index row }
+use Rattle.service_rows.specs.{FirstIndex.{first_index}, FreeRun.{first_free_run}, Reasons.{Service, family_outcome, unsupported}}
+use Rattle.service_rows.specs.Rows.{data_at, with_ax, with_row}
 
 abbrev pub fresh : Desc
 fresh = data_at 0 0
@@ -119,7 +106,7 @@ row_with_desc (Some row) (Some d) = Some (d, row.1)
 
 -- the world with another descriptor of a selector
 abbrev pub with_desc : World → ℕ → Option Desc → World
-with_desc w sel d = record w { descriptors = slice_set w.descriptors (index_of sel) (row_with_desc (desc_of w sel) d) }
+with_desc w sel d = with_row (index_of sel) (row_with_desc (desc_of w sel) d) w
 
 -- 0006h (get segment base address): CX:DX is the base of BX
 unfoldable pub get_segment_base : World → Service

@@ -4,8 +4,8 @@ ghost use Rattle.service_rows.specs.Reasons.{Does};
 ghost use Rattle.desc_services.specs.Rows.{is_no_limit, desc_with_limit, set_segment_limit, set_access_rights};
 
 use crate::selector::{change, changeable};
-use client_world::{Desc, high_byte, low_byte, low_half, two_words};
-use desc_table::{is_access_byte, is_set, kind_of};
+use client_world::{Desc, high_byte, is_set, low_byte, low_half, two_words};
+use desc_table::{is_access_byte, kind_of};
 use guest_space::Machine;
 use service_rows::Refusal;
 
@@ -57,14 +57,14 @@ pub(crate) fn set_access_rights(m: &mut Machine) -> Result<(), Refusal>
     let sel = low_half(r.ebx);
     let (mut d, origin) = changeable(m, sel)?;
     let access = low_byte(r.ecx);
-    let flags = high_byte(r.ecx);
+    let flags = u32::from(high_byte(r.ecx));
     if !is_access_byte(access) || is_set(flags, 0x20) {
         return Err(Refusal::InvalidValue);
     }
     d.gran = is_set(flags, 0x80);
     d.size = is_set(flags, 0x40);
     d.avl = is_set(flags, 0x10);
-    d.present = is_set(access, 0x80);
+    d.present = is_set(u32::from(access), 0x80);
     d.kind = kind_of(access);
     change(m, sel, origin, d);
     Ok(())

@@ -1,12 +1,8 @@
 // What holds of every service. Each is a function with nothing to do: its contract is the law.
 ghost use Rattle.std.specs.Prelude.{ℕ, ◌≡◌, false, Some};
-ghost use Rattle.client_world.specs.declared.descriptors.Desc.{Desc};
-ghost use Rattle.client_world.specs.declared.descriptors.Origin.TheVariants.{Segment};
-ghost use Rattle.client_world.specs.declared.registers.Mode.TheVariants.{Protected as protected};
-ghost use Rattle.client_world.specs.Descriptor.{byte_limit};
-ghost use Rattle.client_world.specs.Selector.{row_at_index};
-ghost use Rattle.client_world.specs.Soundness.{HasOrigin, IsSound};
-ghost use Rattle.client_world.specs.World.{World};
+ghost use Rattle.client_world.specs.{declared.descriptors.Desc.{Desc}, declared.descriptors.Origin.TheVariants.{Segment}};
+ghost use Rattle.client_world.specs.{declared.registers.Mode.TheVariants.{Protected as protected}, Descriptor.{byte_limit}};
+ghost use Rattle.client_world.specs.{Selector.{row_at_index}, Soundness.{HasOrigin, IsSound}, World.{World}};
 ghost use Rattle.desc_services.specs.Rows.{is_no_limit, desc_with_limit, segment_index, descriptor_service};
 
 /// A service leads from a sound world of protected mode to a sound one. Source: own.

@@ -1,10 +1,8 @@
 // Descriptors at the first free indices.
 ghost use Rattle.std.specs.Prelude.{◌≡◌, ◌≢◌, ◌≤◌, ◌<◌, ◌^◌, MatchResult, None, Some};
 ghost use Rattle.client_world.specs.declared.descriptors.Origin.TheVariants.{Own as own};
-ghost use Rattle.client_world.specs.declared.host_frames.TheConstants.{FIRST_FREE_DESCRIPTOR};
-ghost use Rattle.service_rows.specs.declared.refusal.Refusal.TheVariants.{DescriptorUnavailable as unavailable};
-ghost use Rattle.client_world.specs.FreeRuns.{IsFreeRunOf, IsFirstFreeRunOf};
-ghost use Rattle.service_rows.specs.FreeRun.{first_free_run};
+ghost use Rattle.client_world.specs.{declared.host_frames.TheConstants.{FIRST_FREE_DESCRIPTOR}, FreeRuns.{IsFreeRunOf, IsFirstFreeRunOf}};
+ghost use Rattle.service_rows.specs.{declared.refusal.Refusal.TheVariants.{DescriptorUnavailable as unavailable}, FreeRun.{first_free_run}};
 ghost use Rattle.service_rows.specs.Reasons.{Does};
 ghost use Rattle.desc_services.specs.Rows.{allocate_descriptors, create_alias, with_run};
 

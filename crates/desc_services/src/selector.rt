@@ -1,11 +1,8 @@
 // What the selector in BX names, and its base.
 ghost use Rattle.std.specs.Prelude.{◌≡◌, ◌<◌, ◌^◌, true, false, Some, MatchResult, slice_set};
-ghost use Rattle.client_world.specs.declared.descriptors.Desc.{Desc};
-ghost use Rattle.client_world.specs.Services.{desc_of, is_changeable, is_changeable_origin};
-ghost use Rattle.desc_services.specs.MayPut.{MayPut};
-ghost use Rattle.service_rows.specs.declared.refusal.Refusal.TheVariants.{InvalidSelector as invalid};
-ghost use Rattle.service_rows.specs.Reasons.{Does};
-ghost use Rattle.desc_services.specs.Rows.{get_segment_base, set_segment_base, with_desc};
+ghost use Rattle.client_world.specs.{declared.descriptors.Desc.{Desc}, Services.{desc_of, is_changeable, is_changeable_origin}};
+ghost use Rattle.desc_services.specs.{MayPut.{MayPut}, Rows.{get_segment_base, set_segment_base, with_desc}};
+ghost use Rattle.service_rows.specs.{declared.refusal.Refusal.TheVariants.{InvalidSelector as invalid}, Reasons.{Does}};
 
 use client_world::selectors::index_of;
 use client_world::{Desc, Origin, low_half, two_words, with_low_half};

@@ -1,33 +1,13 @@
 -- A descriptor's eight bytes, read back, and written again.
-use Rattle.std.proofs.Common.{arith, ◌≡◌, ◌≤◌, ◌<◌, ◌+◌, ◌*◌, ◌/◌, ◌%◌, ◌^◌, ℕ, zero, suc, Bool, true, false, ◌&&◌, ◌||◌, not, cond, nat_eq}
-use Rattle.std.proofs.Common.{List, [], ◌∷◌, length, slice_index, Some, if◌then◌else◌, refl, ap, ◌∙◌, sym}
-use Rattle.std.proofs.lemmas.Bool.{and_parts, not-true, eqb-true}
-use Rattle.client_world.specs.declared.descriptors.Kind.{Kind}
-use Rattle.client_world.specs.declared.descriptors.Kind.TheVariants.{Data, Code}
-use Rattle.client_world.specs.declared.descriptors.Desc.{Desc}
-use Rattle.client_world.specs.Registers.{has_bit}
-use Rattle.client_world.specs.Descriptor.{packed, flags_byte, kind_bits, FitsDescriptor, Packs}
+use Rattle.std.proofs.Common.{arith, ◌≡◌, ◌<◌, ◌+◌, ◌*◌, ◌/◌, ◌%◌, ◌^◌, ℕ, zero, suc, Bool, true, false, ◌&&◌, ◌||◌, not, cond, nat_eq}
+use Rattle.std.proofs.{Common.{List, [], ◌∷◌, length, slice_index, Some, if◌then◌else◌, refl, ap, ◌∙◌, sym}, lemmas.Bool.{and_parts}}
+use Rattle.std.proofs.lemmas.Bool.{not-true, eqb-true}
+use Rattle.client_world.specs.{declared.descriptors.Kind.{Kind}, declared.descriptors.Kind.TheVariants.{Data, Code}}
+use Rattle.client_world.specs.{declared.descriptors.Desc.{Desc}, Registers.{has_bit}, Descriptor.{packed, flags_byte, kind_bits}}
+use Rattle.client_world.specs.Descriptor.{FitsDescriptor, Packs}
+use Rattle.client_world.proofs.FlagBits.{bit, bit-most, read, weight_of}
+use Rattle.guest_ram.proofs.ByteLists.{dword_sum}
 use Rattle.desc_table.specs.Unpacked.{described, unpacked, is_packed, is_access_byte, kind_of, with_accessed}
-
--- a flag as a number
-abbrev bit : Bool → ℕ
-bit true = 1
-bit false = 0
-
-bit-most : (b : Bool) → bit b ≤ 1
-bit-most true = omega arith
-bit-most false = omega arith
-
-bit-is : (b : Bool) → nat_eq (bit b) 1 ≡ b
-bit-is true = refl
-bit-is false = refl
-
-weight_of : (b : Bool) (w : ℕ) → cond b w 0 ≡ w * bit b
-weight_of true w = omega arith
-weight_of false w = omega arith
-
-read : (x : ℕ) (b : Bool) → x ≡ bit b → nat_eq x 1 ≡ b
-read x b is = ap (λ k. nat_eq k 1) is ∙ bit-is b
 
 access-good : (p : Bool) (k : Kind) → is_access_byte (cond p 0x80 0 + 0x60 + 0x10 + kind_bits k + 1) ≡ true
 access-good true Code = refl
@@ -86,10 +66,6 @@ flags_of x a s g small =
       granularity = omega arith;
     })
 
-base_back : (n : ℕ) →
-    n % 0x100 + 0x100 * (n / 0x100 % 0x100) + 0x10000 * (n / 0x10000 % 0x100) + 0x1000000 * (n / 0x1000000) ≡ n
-base_back n = omega arith
-
 limit_back : (n m : ℕ) → m ≡ n / 0x10000 → n % 0x100 + 0x100 * (n / 0x100 % 0x100) + 0x10000 * m ≡ n
 limit_back n m e = omega arith
 
@@ -98,7 +74,7 @@ unfolding described packed
 described-packed d small =
     let f = flags_of (d.limit / 0x10000) d.avl d.size d.gran (omega arith) in
     rw (
-      base_back d.base,
+      dword_sum d.base,
       limit_back d.limit (flags_byte d % 0x10) f.low,
       read (flags_byte d / 0x10 % 2) d.avl f.available,
       read (flags_byte d / 0x40 % 2) d.size f.size,

@@ -1,19 +1,15 @@
 -- Rows of the descriptor table, read back from their bytes.
 use Rattle.std.proofs.Common.{arith, ◌≡◌, ◌≢◌, ◌≤◌, ◌<◌, ◌+◌, ◌*◌, ◌/◌, ◌%◌, ◌^◌, ◌⊎◌, inl, inr, ℕ, List, [], ◌∷◌, ◌++◌, length}
 use Rattle.std.proofs.Common.{slice_index, get_or, set, Some, None, refl, ap, ◌∙◌, sym, zero-add, add-zero, add_assoc}
-use Rattle.std.proofs.lemmas.Bool.{cases_lt}
-use Rattle.std.proofs.lemmas.List.{get_or_append_left}
-use Rattle.client_world.specs.declared.descriptors.Desc.{Desc}
-use Rattle.client_world.specs.declared.descriptors.Origin.{Origin}
-use Rattle.client_world.specs.declared.descriptors.Origin.TheVariants.{Own, Low, Entry, Psp, Segment, Dos, Host}
-use Rattle.client_world.specs.Descriptor.{packed}
+use Rattle.std.proofs.{lemmas.Bool.{cases_lt}, lemmas.List.{get_or_append_left}}
+use Rattle.client_world.specs.{declared.descriptors.Desc.{Desc}, declared.descriptors.Origin.{Origin}}
+use Rattle.client_world.specs.{declared.descriptors.Origin.TheVariants.{Own, Low, Entry, Psp, Segment, Dos, Host}, Descriptor.{packed}}
+use Rattle.client_world.specs.{declared.host_frames.TheConstants.{DESCRIPTORS, DESCRIPTOR_ROW_SIZE}, Selector.{Row, FitsRow}}
 use Rattle.guest_ram.specs.Bytes.{put, word_of, region}
-use Rattle.guest_ram.proofs.PutLaws.{put_within, put_away, at_region}
-use Rattle.guest_ram.proofs.ListedLaws.{length-listed, at_listed, same_listed, listed-set}
-use Rattle.client_world.specs.declared.host_frames.TheConstants.{DESCRIPTORS, DESCRIPTOR_ROW_SIZE}
-use Rattle.desc_table.specs.Unpacked.{unpacked, described}
-use Rattle.desc_table.specs.Rows.{row_at, row_bytes, rows_from, row_address, origin_of, origin_code, origin_segment}
-use Rattle.client_world.specs.Selector.{Row, FitsRow}
+use Rattle.guest_ram.proofs.{ByteLists.{word_back}, PutLaws.{put_within, put_away, at_region}, ListedLaws.{length-listed, at_listed}}
+use Rattle.guest_ram.proofs.ListedLaws.{same_listed, listed-set}
+use Rattle.desc_table.specs.{Unpacked.{unpacked, described}, Rows.{row_at, row_bytes, rows_from, row_address, origin_of, origin_code}}
+use Rattle.desc_table.specs.Rows.{origin_segment}
 use Rattle.desc_table.proofs.PackedLaws.{unpacked-packed}
 
 -- eight bytes that are the same are the same descriptor
@@ -42,9 +38,6 @@ same_row b c p q same =
     let e11 : slice_index b (p + 10 + 1) ≡ slice_index c (q + 10 + 1) =
     rw (add_assoc p 10 1, add_assoc q 10 1) (same 11 (omega arith)) in
     rw (d, e8, e10, e11)
-
-word_back : (s : ℕ) → s % 0x100 + 0x100 * (s / 0x100) ≡ s
-word_back s = omega arith
 
 origin_back : (origin : Origin) → origin_of (origin_code origin) (origin_segment origin) ≡ Some origin
 origin_back Own = refl

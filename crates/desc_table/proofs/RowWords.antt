@@ -1,6 +1,5 @@
 -- The words of a descriptor's eight bytes.
-use Rattle.std.proofs.Common.{◌≡◌, ℕ, ◌+◌, ◌*◌, List, drop, slice_index, arith}
-use Rattle.std.proofs.lemmas.List.{get_or-drop}
+use Rattle.std.proofs.{Common.{◌≡◌, ℕ, ◌+◌, ◌*◌, List, drop, slice_index, arith}, lemmas.List.{get_or-drop}}
 use Rattle.byteorder.specs.Endian.{little_number}
 
 -- the number in the two bytes from the third on

@@ -1,10 +1,9 @@
 -- The search for a run of free rows.
 use Rattle.std.proofs.Common.{arith, ◌≡◌, ◌≤◌, ◌<◌, ◌+◌, inl, inr, ℕ, true, false, Some, None, List, refl, sym, ◌∙◌, ap}
-use Rattle.std.specs.Option.{is_some}
 use Rattle.std.proofs.lemmas.Bool.{cases_lt, true≢false}
-use Rattle.client_world.specs.declared.host_frames.TheConstants.{DESCRIPTORS, FIRST_FREE_DESCRIPTOR}
+use Rattle.std.specs.Option.{is_some}
+use Rattle.client_world.specs.{declared.host_frames.TheConstants.{DESCRIPTORS, FIRST_FREE_DESCRIPTOR}, Selector.{Row}}
 use Rattle.desc_table.specs.Rows.{row_at, row_address, IsFreeRun}
-use Rattle.client_world.specs.Selector.{Row}
 
 -- no run of n begins below an index, from 64 on
 abbrev pub NoneBelow : List ℕ → ℕ → ℕ → Type 0
@@ -14,7 +13,8 @@ NoneBelow bytes n start = (below : ℕ) → FIRST_FREE_DESCRIPTOR ≤ below → 
 abbrev pub FreeBetween : List ℕ → ℕ → ℕ → Type 0
 FreeBetween bytes from to = (index : ℕ) → from ≤ index → index < to → row_at bytes (row_address index) ≡ None
 
-none_of : (row : Row) → is_some row ≡ false → row ≡ None
+-- a row that is free
+pub none_of : (row : Row) → is_some row ≡ false → row ≡ None
 none_of None free = refl
 none_of (Some row) free = cc
 

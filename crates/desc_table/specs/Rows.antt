@@ -1,15 +1,11 @@
 -- The rows of the client's descriptor table, a map from indices below 8192 to descriptors and their origins. Source: own.
 use Rattle.std.specs.Prelude.{◌≡◌, ◌≤◌, ◌<◌, ℕ, ◌+◌, ◌*◌, ◌/◌, ◌%◌, Option, Some, None, List, [], ◌∷◌, ◌++◌, length, slice_index, nat_eq}
 use Rattle.std.specs.Prelude.{if◌then◌else◌}
-use Rattle.client_world.specs.declared.descriptors.Desc.{Desc}
-use Rattle.client_world.specs.declared.descriptors.Origin.{Origin}
+use Rattle.client_world.specs.{declared.descriptors.Desc.{Desc}, declared.descriptors.Origin.{Origin}}
 use Rattle.client_world.specs.declared.descriptors.Origin.TheVariants.{Own, Low, Entry, Psp, Segment, Dos, Host}
 use Rattle.client_world.specs.declared.host_frames.TheConstants.{PAGE_SIZE, DESCRIPTOR_ROWS, DESCRIPTORS, DESCRIPTOR_ROW_SIZE}
-use Rattle.client_world.specs.declared.host_frames.TheConstants.{FIRST_FREE_DESCRIPTOR}
-use Rattle.client_world.specs.Descriptor.{packed}
-use Rattle.client_world.specs.Selector.{Row}
-use Rattle.guest_ram.specs.Bytes.{word_of}
-use Rattle.guest_ram.specs.Listed.{listed}
+use Rattle.client_world.specs.{declared.host_frames.TheConstants.{FIRST_FREE_DESCRIPTOR}, Descriptor.{packed}, Selector.{Row}}
+use Rattle.guest_ram.specs.{Bytes.{word_of}, Listed.{listed}}
 use Rattle.desc_table.specs.Unpacked.{unpacked}
 
 -- the code of an origin; 0 is a free row's

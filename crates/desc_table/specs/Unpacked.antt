@@ -1,10 +1,8 @@
 -- The descriptor that eight bytes are. Source: 80386 Programmer's Reference Manual, ch. 5, "Descriptors", figure 5-3.
 use Rattle.std.specs.Prelude.{ℕ, ◌+◌, ◌*◌, ◌/◌, ◌%◌, Bool, ◌&&◌, ◌||◌, not, nat_eq, if◌then◌else◌, Option, Some, None, List, slice_index}
 use Rattle.std.specs.Prelude.{slice_set}
-use Rattle.client_world.specs.declared.descriptors.Kind.{Kind}
-use Rattle.client_world.specs.declared.descriptors.Kind.TheVariants.{Data, Code}
-use Rattle.client_world.specs.declared.descriptors.Desc.{Desc}
-use Rattle.client_world.specs.Registers.{has_bit}
+use Rattle.client_world.specs.{declared.descriptors.Kind.{Kind}, declared.descriptors.Kind.TheVariants.{Data, Code}}
+use Rattle.client_world.specs.{declared.descriptors.Desc.{Desc}, Registers.{has_bit}}
 
 -- a good access byte: bit 4 set, DPL 3 in bits 6 and 5, and for code (bit 3) bit 2 clear and bit 1 set
 abbrev pub is_access_byte : ℕ → Bool

@@ -8,7 +8,9 @@
 mod packing;
 mod rows;
 
-pub use packing::{a_packed_descriptor_is_unpacked, is_access_byte, is_set, kind_of, pack, unpack};
+pub use packing::{
+    a_packed_descriptor_is_unpacked, access_byte, flags_byte, is_access_byte, kind_of, pack, unpack,
+};
 pub use rows::{
     free_run, look, set, the_bytes_of_a_row_are_that_row, the_rows_stand_at_their_indices,
 };

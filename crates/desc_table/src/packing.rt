@@ -1,58 +1,40 @@
 // Descriptors and their eight bytes.
 ghost use Rattle.std.specs.Prelude.{◌≡◌, ◌≤◌, ◌<◌, ◌^◌, ℕ, List, Some, cond, ◌↔◌, IfSome, IsSome, IsTrue};
-ghost use Rattle.client_world.specs.declared.descriptors.Desc.{Desc};
-ghost use Rattle.client_world.specs.Registers.{has_bit};
-ghost use Rattle.client_world.specs.Descriptor.{access_byte, flags_byte, kind_bits, packed, FitsDescriptor, Packs};
+ghost use Rattle.client_world.specs.{declared.descriptors.Desc.{Desc}, Registers.{has_bit}, Descriptor.{access_byte, flags_byte}};
+ghost use Rattle.client_world.specs.Descriptor.{kind_bits, packed, FitsDescriptor, Packs};
 ghost use Rattle.desc_table.specs.Unpacked.{is_access_byte, kind_of, is_packed, described, unpacked, with_accessed};
 
 use byteorder::{ByteOrder, LittleEndian};
-use client_world::{Desc, Kind};
+use client_world::{Desc, Kind, is_set, weight};
 
 // The bits of the access byte. Bits 1 and 2 mean writable and expand-down in data, readable and conforming in code.
-const WRITABLE: u8 = 0x02;
+const WRITABLE: u32 = 0x02;
 
-const READABLE: u8 = 0x02;
+const READABLE: u32 = 0x02;
 
-const EXPAND_DOWN: u8 = 0x04;
+const EXPAND_DOWN: u32 = 0x04;
 
-const CONFORMING: u8 = 0x04;
+const CONFORMING: u32 = 0x04;
 
-const EXECUTABLE: u8 = 0x08;
+const EXECUTABLE: u32 = 0x08;
 
-const SEGMENT_AT_LEVEL_3: u8 = 0x70;
+const SEGMENT_AT_LEVEL_3: u32 = 0x70;
 
-const PRESENT: u8 = 0x80;
+const PRESENT: u32 = 0x80;
 
-const ACCESSED: u8 = 0x01;
+const ACCESSED: u32 = 0x01;
 
 // The bits of the byte after it.
-const AVAILABLE: u8 = 0x10;
+const AVAILABLE: u32 = 0x10;
 
-const RESERVED: u8 = 0x20;
+const RESERVED: u32 = 0x20;
 
-const SIZE: u8 = 0x40;
+const SIZE: u32 = 0x40;
 
-const GRANULARITY: u8 = 0x80;
-
-// A bit's value where the flag is set, else 0.
-fn weight(flag: bool, bit: u8) -> u8
-    ensures value { result ≡ cond flag bit 0 }
-    ensures most { result ≤ bit }
-{
-    if flag { bit } else { 0 }
-}
-
-/// Whether the bit of that value is set in a byte of a descriptor.
-/// Source: 80386 Programmer's Reference Manual, ch. 5, "Descriptors".
-pub fn is_set(byte: u8, bit: u8) -> bool
-    requires { 0 < bit }
-    ensures { result ≡ has_bit byte bit }
-{
-    byte / bit % 2 == 1
-}
+const GRANULARITY: u32 = 0x80;
 
 // The bits of the access byte that say what the segment holds.
-fn type_bits(kind: Kind) -> u8
+fn type_bits(kind: Kind) -> u32
     ensures value { result ≡ kind_bits kind }
     ensures most { result ≤ 10 }
 {
@@ -62,22 +44,26 @@ fn type_bits(kind: Kind) -> u8
     }
 }
 
-// The access byte, with DPL 3 and the Accessed bit set.
-fn access(d: &Desc) -> u8
+/// The access byte, byte 5 of the eight, with DPL 3 and the Accessed bit set.
+/// Source: 80386 Programmer's Reference Manual, ch. 5, "Descriptors".
+pub fn access_byte(d: &Desc) -> u8
     ensures { result ≡ access_byte d.now }
 {
-    weight(d.present, PRESENT) + SEGMENT_AT_LEVEL_3 + type_bits(d.kind) + ACCESSED
+    let byte = weight(d.present, PRESENT) + SEGMENT_AT_LEVEL_3 + type_bits(d.kind) + ACCESSED;
+    byte as u8
 }
 
-// The byte after it.
-fn flags(d: &Desc) -> u8
+/// The byte after it: G, D/B, AVL and the high four bits of a limit that has 20.
+/// Source: 80386 Programmer's Reference Manual, ch. 5, "Descriptors".
+pub fn flags_byte(d: &Desc) -> u8
     requires { d.now.limit < 2 ^ 20 }
     ensures { result ≡ flags_byte d.now }
 {
-    (d.limit / 0x10000) as u8
+    let byte = d.limit / 0x10000
         + weight(d.avl, AVAILABLE)
         + weight(d.size, SIZE)
-        + weight(d.gran, GRANULARITY)
+        + weight(d.gran, GRANULARITY);
+    byte as u8
 }
 
 /// The eight bytes of a descriptor whose limit has 20 bits, with the Accessed bit set.
@@ -93,8 +79,8 @@ pub fn pack(d: &Desc) -> [u8; 8]
         (d.base % 0x100) as u8,
         (d.base / 0x100 % 0x100) as u8,
         (d.base / 0x10000 % 0x100) as u8,
-        access(d),
-        flags(d),
+        access_byte(d),
+        flags_byte(d),
         (d.base / 0x1000000) as u8,
     ]
 }
@@ -104,6 +90,7 @@ pub fn pack(d: &Desc) -> [u8; 8]
 pub fn is_access_byte(byte: u8) -> bool
     ensures { result ≡ is_access_byte byte }
 {
+    let byte = u32::from(byte);
     byte / 0x10 % 8 == 7
         && (!is_set(byte, EXECUTABLE) || (!is_set(byte, CONFORMING) && is_set(byte, READABLE)))
 }
@@ -113,6 +100,7 @@ pub fn is_access_byte(byte: u8) -> bool
 pub fn kind_of(byte: u8) -> Kind
     ensures { result ≡ kind_of byte }
 {
+    let byte = u32::from(byte);
     if is_set(byte, EXECUTABLE) {
         Kind::Code
     } else {
@@ -128,15 +116,16 @@ pub fn kind_of(byte: u8) -> Kind
 fn describe(b: &[u8; 8]) -> Desc
     ensures { result ≡ described b.now 0 }
 {
+    let flags = u32::from(b[6]);
     Desc {
         base: u32::from(LittleEndian::read_u16(&b[2..]))
             + 0x10000 * u32::from(b[4])
             + 0x1000000 * u32::from(b[7]),
-        limit: u32::from(LittleEndian::read_u16(b)) + 0x10000 * u32::from(b[6] % 0x10),
-        gran: is_set(b[6], GRANULARITY),
-        size: is_set(b[6], SIZE),
-        avl: is_set(b[6], AVAILABLE),
-        present: is_set(b[5], PRESENT),
+        limit: u32::from(LittleEndian::read_u16(b)) + 0x10000 * (flags % 0x10),
+        gran: is_set(flags, GRANULARITY),
+        size: is_set(flags, SIZE),
+        avl: is_set(flags, AVAILABLE),
+        present: is_set(u32::from(b[5]), PRESENT),
         kind: kind_of(b[5]),
     }
 }
@@ -151,7 +140,7 @@ pub fn unpack(b: &[u8; 8]) -> Option<Desc>
     ensures packs { IfSome result (λ d. Packs d (with_accessed b.now)) }
     ensures fits { IfSome result FitsDescriptor }
 {
-    if is_access_byte(b[5]) && !is_set(b[6], RESERVED) {
+    if is_access_byte(b[5]) && !is_set(u32::from(b[6]), RESERVED) {
         Some(describe(b))
     } else {
         None

@@ -1,23 +1,10 @@
 // The rows of the client's descriptor table in the host's frames.
 ghost use Rattle.std.specs.Prelude.{◌≡◌, ◌≢◌, ◌≤◌, ◌<◌, ◌+◌, ◌↔◌, ◌⊎◌, ℕ, List, Some, length, slice_get, slice_set, IfSome, IsNone};
 ghost use Rattle.client_world.specs.declared.host_frames.TheConstants.{DESCRIPTORS, DESCRIPTOR_ROW_SIZE, FIRST_FREE_DESCRIPTOR};
-ghost use Rattle.client_world.specs.Descriptor.{FitsDescriptor};
-ghost use Rattle.client_world.specs.Selector.{Row, FitsRow};
+ghost use Rattle.client_world.specs.{Descriptor.{FitsDescriptor}, Selector.{Row, FitsRow}};
 ghost use Rattle.guest_ram.specs.Bytes.{put};
-ghost use Rattle.desc_table.specs.Unpacked.{unpacked};
-ghost use Rattle.desc_table.specs.Rows.{
-  origin_code,
-  origin_segment,
-  origin_of,
-  row_at,
-  row_bytes,
-  rows_from,
-  rows_start,
-  row_address,
-  HasRows,
-  IsFreeRun,
-  IsFirstFreeRun,
-};
+ghost use Rattle.desc_table.specs.{Unpacked.{unpacked}, Rows.{origin_code, origin_segment, origin_of, row_at, row_bytes, rows_from}};
+ghost use Rattle.desc_table.specs.Rows.{rows_start, row_address, HasRows, IsFreeRun, IsFirstFreeRun};
 
 use crate::packing::{pack, unpack};
 use client_world::host_frames::{

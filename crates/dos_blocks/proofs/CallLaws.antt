@@ -1,17 +1,12 @@
 -- What each call puts into the arena leaves one, and neither takes out nor puts in a block of INT 31h function 0100h.
-use Rattle.std.proofs.Common.{◌≡◌, ℕ, ◌+◌, ◌-◌, ◌<◌, ◌≤◌, Bool, true, false, List, [], ◌∷◌, length, refl, arith}
-use Rattle.std.proofs.lemmas.Bool.{false≢true}
-use Rattle.client_world.specs.declared.dos_memory.DosEntry.{DosEntry}
-use Rattle.client_world.specs.declared.memory_map.TheConstants.{ARENA_END}
-use Rattle.client_world.specs.DosMemory.{is_free, is_dpmi, Fills, IsArena}
+use Rattle.std.proofs.{Common.{◌≡◌, ℕ, ◌+◌, ◌-◌, ◌<◌, ◌≤◌, Bool, true, false, List, [], ◌∷◌, length, refl, arith}, lemmas.Bool.{false≢true}}
+use Rattle.client_world.specs.{declared.dos_memory.DosEntry.{DosEntry}, declared.memory_map.TheConstants.{ARENA_END}, DosMemory.{is_free}}
+use Rattle.client_world.specs.DosMemory.{is_dpmi, Fills, IsArena}
 use Rattle.guest_space.specs.Arena.{with_replaced_entries}
 use Rattle.dos_blocks.specs.Blocks.{missing_entry, entry_of_place, block_state, split, is_of_kind, free_entries_after, greatest_size}
-use Rattle.dos_blocks.specs.Blocks.{free_before, room_before, joined_entry}
-use Rattle.dos_blocks.specs.Puts.{CanPut}
-use Rattle.dos_blocks.proofs.Founds.{HasFit, HasBlock}
-use Rattle.dos_blocks.proofs.NeighbourLaws.{free_plain, used_plain, take_one, behind_within, behind_fills, behind_plain, behind_right}
-use Rattle.dos_blocks.proofs.NeighbourLaws.{possible_ends, is_before}
-use Rattle.dos_blocks.proofs.Splicing.{joined_next, arena-spliced}
+use Rattle.dos_blocks.specs.{Blocks.{free_before, room_before, joined_entry}, Puts.{CanPut}}
+use Rattle.dos_blocks.proofs.{Founds.{HasFit, HasBlock}, NeighbourLaws.{free_plain, used_plain, take_one, behind_within, behind_fills}}
+use Rattle.dos_blocks.proofs.{NeighbourLaws.{behind_plain, behind_right, possible_ends, is_before}, Splicing.{joined_next, arena-spliced}}
 use Rattle.dos_blocks.proofs.Splits.{fills-split, joined-split, some-split, starts-split, plain-split}
 
 -- they leave an arena, whatever they are

@@ -1,19 +1,9 @@
 -- What the place that a search finds says of the entry there.
-use Rattle.std.proofs.Common.{◌≡◌, ℕ, zero, suc, ◌+◌, ◌-◌, ◌<◌, ◌≤◌, ◌⊎◌, inl, inr, Bool, true, false, ◌&&◌, if◌then◌else◌, List, [], ◌∷◌}
-use Rattle.std.proofs.Common.{length, refl, ap, sym, subst, arith, Option, Some, None}
-use Rattle.std.proofs.lemmas.Bool.{leb-true, eqb-true}
+use Rattle.std.proofs.Common.{◌≡◌, ℕ, zero, suc, ◌+◌, ◌-◌, ◌<◌, ◌≤◌, ◌⊎◌, inl, inr, Bool, true, false, if◌then◌else◌, List, [], ◌∷◌, length}
+use Rattle.std.proofs.{Common.{refl, ap, sym, subst, arith, Option, Some, None}, lemmas.Bool.{leb-true, eqb-true, and_parts}}
 use Rattle.std.proofs.lemmas.Option.{none-some}
-use Rattle.client_world.specs.declared.dos_memory.DosEntry.{DosEntry}
-use Rattle.client_world.specs.DosMemory.{is_free, block_segment}
+use Rattle.client_world.specs.{declared.dos_memory.DosEntry.{DosEntry}, DosMemory.{is_free, block_segment}}
 use Rattle.dos_blocks.specs.Blocks.{fits, first_fit, entry_of_place, is_of_kind, starts_at, place_of_block}
-
-pub and_left : (a b : Bool) → (a && b) ≡ true → a ≡ true
-and_left true b h = refl
-and_left false b h = h
-
-pub and_right : (a b : Bool) → (a && b) ≡ true → b ≡ true
-and_right true b h = h
-and_right false b h = cc
 
 abbrev pub number : Option ℕ → ℕ
 number None = 0
@@ -40,7 +30,7 @@ fit_tells (e ∷ es) n start place h = elim (chosen (fits e n) start place (firs
 ]
   where
     here : (j : ℕ) → j ≡ 0 → fits e n ≡ true → HasFit (e ∷ es) n j
-    here zero z test = grind (arith, and_left, and_right, leb-true)
+    here zero z test = grind (arith, and_parts, leb-true)
     here (suc j) z test = absurd (omega arith)
 
     there : (j i : ℕ) → j ≡ i + 1 → HasFit es n i → HasFit (e ∷ es) n j
@@ -72,7 +62,7 @@ block_tells for_dpmi (e ∷ es) segment start place h =
     ]
   where
     here : (j : ℕ) → j ≡ 0 → starts_at for_dpmi e segment ≡ true → HasBlock for_dpmi (e ∷ es) segment j
-    here zero z test = grind (arith, and_left, and_right, eqb-true)
+    here zero z test = grind (arith, and_parts, eqb-true)
     here (suc j) z test = absurd (omega arith)
 
     there : (j i : ℕ) → j ≡ i + 1 → HasBlock for_dpmi es segment i → HasBlock for_dpmi (e ∷ es) segment j

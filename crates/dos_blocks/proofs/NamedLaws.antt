@@ -2,36 +2,24 @@
 -- descriptors.
 use Rattle.std.proofs.Common.{◌≡◌, ◌≢◌, ◌↔◌, ℕ, zero, suc, ◌+◌, ◌-◌, ◌%◌, ◌/◌, ◌<◌, ◌≤◌, ◌⊎◌, inl, inr, Bool, true, false, List, [], ◌∷◌}
 use Rattle.std.proofs.Common.{◌++◌, length, take, drop, max, refl, ap, ◌∙◌, sym, subst, arith, Option, Some, None, Result, Ok, Err}
-use Rattle.std.proofs.lemmas.Bool.{cases_eq, cases_lt, cond-true, cond-false, eq-eqb, ne_eqb, eqb-true, le-ltb, and_from}
-use Rattle.std.proofs.lemmas.Bool.{false_from_ne_true}
-use Rattle.std.proofs.lemmas.Option.{none-some, slice_get-get_or}
-use Rattle.client_world.specs.declared.descriptors.Origin.TheVariants.{Dos}
-use Rattle.client_world.specs.declared.dos_memory.DosEntry.{DosEntry}
-use Rattle.client_world.specs.declared.dos_memory.DosRefusal.{DosRefusal}
-use Rattle.client_world.specs.declared.dos_memory.DosState.TheVariants.{Dpmi}
-use Rattle.client_world.specs.declared.memory_map.TheConstants.{ARENA_START, ARENA_END}
-use Rattle.client_world.specs.DosMemory.{block_segment, is_dpmi}
-use Rattle.client_world.specs.FreeRuns.{IsFreeRunOf}
-use Rattle.client_world.specs.Registers.{low_half, with_low_half}
-use Rattle.client_world.specs.Selector.{Row, index_of, is_local, row_at_index, selector_of}
-use Rattle.client_world.specs.Services.{ax, bx, dx}
-use Rattle.client_world.specs.Soundness.{IsSound, HasOrigin, HasRun, IsRunOf, descriptors_for}
-use Rattle.client_world.specs.World.{World}
-use Rattle.guest_space.specs.Arena.{with_replaced_entries, with_entries}
-use Rattle.guest_space.specs.DosRuns.{dos_row, with_dos_rows}
+use Rattle.std.proofs.lemmas.Bool.{cases_eq, cases_lt, cond-true, cond-false, eq-eqb, ne_eqb, eqb-true, le-ltb, and_from, and_parts}
+use Rattle.std.proofs.{lemmas.Bool.{false_from_ne_true}, lemmas.Option.{none-some, slice_get-get_or}}
+use Rattle.client_world.specs.{declared.descriptors.Origin.TheVariants.{Dos}, declared.dos_memory.DosEntry.{DosEntry}}
+use Rattle.client_world.specs.{declared.dos_memory.DosRefusal.{DosRefusal}, declared.dos_memory.DosState.TheVariants.{Dpmi}}
+use Rattle.client_world.specs.{declared.memory_map.TheConstants.{ARENA_START, ARENA_END}, DosMemory.{block_segment, is_dpmi}}
+use Rattle.client_world.specs.{FreeRuns.{IsFreeRunOf}, Registers.{low_half, with_low_half}, Selector.{Row, index_of, is_local}}
+use Rattle.client_world.specs.{Selector.{row_at_index, selector_of}, Services.{ax, bx, dx}, Soundness.{IsSound, HasOrigin, HasRun, IsRunOf}}
+use Rattle.client_world.specs.{Soundness.{descriptors_for}, World.{World}}
+use Rattle.guest_space.specs.{Arena.{with_replaced_entries, with_entries}, DosRuns.{dos_row, with_dos_rows}}
 use Rattle.guest_space.proofs.DosRows.{dos_row_has, row_inside, row_outside}
 use Rattle.service_rows.specs.FreeRun.{first_free_run}
 use Rattle.service_rows.proofs.RunLaws.{free_run_of}
 use Rattle.dos_blocks.specs.Blocks.{Done, missing_entry, entry_of_place, first_fit, is_of_segment, place_of_block, run_of_block}
-use Rattle.dos_blocks.specs.Blocks.{segment_of_row, split, starts_at}
-use Rattle.dos_blocks.specs.Named.{HasNewBlock, LosesDescriptors, NamesBlock}
+use Rattle.dos_blocks.specs.{Blocks.{segment_of_row, split, starts_at}, Named.{HasNewBlock, LosesDescriptors, NamesBlock}}
 use Rattle.dos_blocks.specs.Services.{allocate_dos_block, first_of_segment, free_dos_block, place_of_segment, place_of_selector}
 use Rattle.dos_blocks.specs.Services.{segment_of_selector}
-use Rattle.dos_blocks.proofs.Founds.{HasFit, and_right, found_fit, number}
-use Rattle.dos_blocks.proofs.NeighbourLaws.{entry_within}
-use Rattle.dos_blocks.proofs.OneStep.{freed_is, given_at, given_is}
-use Rattle.dos_blocks.proofs.RunPuts.{has_within, later_after, no_descriptor}
-use Rattle.dos_blocks.proofs.SelectorLaws.{row_is, row_tells, selector_block}
+use Rattle.dos_blocks.proofs.{Founds.{HasFit, found_fit, number}, NeighbourLaws.{entry_within}, OneStep.{freed_is, given_at, given_is}}
+use Rattle.dos_blocks.proofs.{RunPuts.{has_within, later_after, no_descriptor}, SelectorLaws.{row_is, row_tells, selector_block}}
 
 -- ---- the place of a block
 
@@ -57,7 +45,7 @@ block_at_place w place s small made =
     false_from_ne_true _
     (λ starts. (let later = later_after w.arena ARENA_START ARENA_END j place missing_entry s.arena.fills below small in
     let same = eqb-true (block_segment (entry_of_place w.arena j)) segment
-    (and_right (is_dpmi (entry_of_place w.arena j).state) _ starts) in omega arith)))
+    (and_parts (is_dpmi (entry_of_place w.arena j).state) _ starts).1 in omega arith)))
     ∙ ap (λ (n : ℕ). Some n) (let same : 0 + place ≡ place = omega arith in same)
 
 -- ---- the segment of a selector

@@ -1,20 +1,14 @@
 -- The entries beside a block: what follows it, and what comes before it.
 use Rattle.std.proofs.Common.{◌≡◌, ℕ, ◌+◌, ◌-◌, ◌<◌, ◌≤◌, Bool, true, false, ◌&&◌, nat_le, List, [], ◌∷◌, length, take, drop, refl, ap, ◌∙◌}
-use Rattle.std.proofs.Common.{arith, zero-add}
-use Rattle.std.proofs.lemmas.Bool.{cases_Bool, leb-true, le-leb, false≢true}
+use Rattle.std.proofs.{Common.{arith, zero-add}, lemmas.Bool.{cases_Bool, leb-true, le-leb, false≢true, and_parts}}
 use Rattle.std.proofs.lemmas.List.{get_or_past}
-use Rattle.client_world.specs.declared.dos_memory.DosEntry.{DosEntry}
-use Rattle.client_world.specs.declared.dos_memory.DosState.{DosState}
-use Rattle.client_world.specs.declared.dos_memory.DosState.TheVariants.{Free, Used, Dpmi}
-use Rattle.client_world.specs.declared.memory_map.TheConstants.{ARENA_START, ARENA_END}
-use Rattle.client_world.specs.DosMemory.{is_free, is_dpmi, Fills, IsArena}
-use Rattle.guest_space.specs.Arena.{NoneMade}
-use Rattle.guest_space.specs.DosRuns.{made_blocks}
+use Rattle.client_world.specs.{declared.dos_memory.DosEntry.{DosEntry}, declared.dos_memory.DosState.{DosState}}
+use Rattle.client_world.specs.{declared.dos_memory.DosState.TheVariants.{Free, Used, Dpmi}, declared.memory_map.TheConstants.{ARENA_START}}
+use Rattle.client_world.specs.{declared.memory_map.TheConstants.{ARENA_END}, DosMemory.{is_free, is_dpmi, Fills, IsArena}}
+use Rattle.guest_space.specs.{Arena.{NoneMade}, DosRuns.{made_blocks}}
 use Rattle.guest_space.proofs.Fills.{IsWithin, fills_at, fills_next}
 use Rattle.dos_blocks.specs.Blocks.{missing_entry, entry_of_place, is_used, free_entries_after, greatest_size, free_before, room_before}
-use Rattle.dos_blocks.proofs.Searches.{dropped}
-use Rattle.dos_blocks.proofs.Splicing.{joined_next}
-use Rattle.dos_blocks.proofs.Founds.{and_left, and_right}
+use Rattle.dos_blocks.proofs.{Searches.{dropped}, Splicing.{joined_next}}
 
 -- states
 
@@ -117,4 +111,4 @@ none_before es place none = grind (arith, le-leb, only_right, zero-add)
 
 pub is_before : (es : List DosEntry) (place : ℕ) → IsArena es → place < length es →
     IsBefore es place (free_before es place) (room_before es place)
-is_before es place arena small = grind (arith, and_left, and_right, leb-true, none_before, one_before)
+is_before es place arena small = grind (arith, and_parts, leb-true, none_before, one_before)

@@ -1,23 +1,17 @@
 -- The services in one step: what they put at the place of the block that they find.
 use Rattle.std.proofs.Common.{◌≡◌, ℕ, ◌+◌, ◌-◌, Bool, true, false, [], ◌∷◌, refl, ap, ◌∙◌, sym, Option, Some, None, Ok, Err, if◌then◌else◌}
-use Rattle.std.proofs.Common.{nat_le, nat_lt, arith}
-use Rattle.std.proofs.lemmas.Bool.{and_parts, cond-true}
+use Rattle.std.proofs.{Common.{nat_le, nat_lt, arith}, lemmas.Bool.{and_parts, cond-true}}
 use Rattle.client_world.specs.declared.dos_memory.DosRefusal.TheVariants.{NoMemory, WrongBlock}
-use Rattle.client_world.specs.declared.dos_memory.DosState.TheVariants.{Dpmi}
-use Rattle.client_world.specs.DosMemory.{block_segment}
-use Rattle.client_world.specs.Selector.{index_of, selector_of}
-use Rattle.client_world.specs.Soundness.{IsSound, descriptors_for}
-use Rattle.client_world.specs.World.{World}
+use Rattle.client_world.specs.{declared.dos_memory.DosState.TheVariants.{Dpmi}, DosMemory.{block_segment}, Selector.{index_of, selector_of}}
+use Rattle.client_world.specs.{Soundness.{IsSound, descriptors_for}, World.{World}}
 use Rattle.guest_space.specs.DosRuns.{with_entries_and_run}
-use Rattle.service_rows.specs.FreeRun.{first_free_run}
-use Rattle.service_rows.specs.Rows.{with_ax}
+use Rattle.service_rows.specs.{FreeRun.{first_free_run}, Rows.{with_ax}}
 use Rattle.dos_blocks.specs.Blocks.{Done, allocation_result, allocation_result_at, entry_of_place, first_fit, free_before}
 use Rattle.dos_blocks.specs.Blocks.{free_entries_after, free_result, free_result_at, joined_entry, largest, place_of_block, greatest_size}
-use Rattle.dos_blocks.specs.Blocks.{resize_result, resize_result_at, run_of_block, split}
-use Rattle.dos_blocks.specs.Services.{can_have, free_result_of_segment, allocation_result_from, place_of_segment, place_of_selector}
-use Rattle.dos_blocks.specs.Services.{resize_result_of_segment, resize_result_of_place, segment_of_selector, with_dx, with_first_selector}
-use Rattle.dos_blocks.proofs.BlockRuns.{first_is_named}
-use Rattle.dos_blocks.proofs.Founds.{found_block}
+use Rattle.dos_blocks.specs.{Blocks.{resize_result, resize_result_at, run_of_block, split}, Services.{can_have, free_result_of_segment}}
+use Rattle.dos_blocks.specs.Services.{allocation_result_from, place_of_segment, place_of_selector, resize_result_of_segment}
+use Rattle.dos_blocks.specs.Services.{resize_result_of_place, segment_of_selector, with_dx, with_first_selector}
+use Rattle.dos_blocks.proofs.{BlockRuns.{first_is_named}, Founds.{found_block}}
 
 -- ---- 0100h
 

@@ -1,22 +1,15 @@
 -- A service that is refused changes AX and BX alone.
 use Rattle.std.proofs.Common.{◌≡◌, ◌∙◌, ℕ, Bool, true, false, nat_eq, nat_le, if◌then◌else◌, refl, ap, sym, subst, Option, Some, None}
 use Rattle.std.proofs.Common.{Result, Ok, Err}
-use Rattle.client_world.specs.declared.dos_memory.DosRefusal.{DosRefusal}
-use Rattle.client_world.specs.declared.dos_memory.DosRefusal.TheVariants.{NoMemory, WrongBlock}
-use Rattle.client_world.specs.declared.services.Carry.TheVariants.{Set}
-use Rattle.client_world.specs.Registers.{low_half}
-use Rattle.client_world.specs.Selector.{index_of}
-use Rattle.client_world.specs.Services.{Served, bx, dx}
-use Rattle.client_world.specs.Soundness.{descriptors_for}
+use Rattle.client_world.specs.{declared.dos_memory.DosRefusal.{DosRefusal}, declared.dos_memory.DosRefusal.TheVariants.{NoMemory}}
+use Rattle.client_world.specs.{declared.dos_memory.DosRefusal.TheVariants.{WrongBlock}, declared.services.Carry.TheVariants.{Set}}
+use Rattle.client_world.specs.{Registers.{low_half}, Selector.{index_of}, Services.{Served, bx, dx}, Soundness.{descriptors_for}}
 use Rattle.client_world.specs.World.{World}
-use Rattle.service_rows.specs.FreeRun.{first_free_run}
-use Rattle.service_rows.specs.Reasons.{HasOtherAxAndBx}
-use Rattle.service_rows.specs.Rows.{with_ax}
+use Rattle.service_rows.specs.{FreeRun.{first_free_run}, Reasons.{HasOtherAxAndBx}, Rows.{with_ax}}
 use Rattle.service_rows.proofs.AnswerLaws.{ax_and_bx, same_ax, same_bx}
-use Rattle.dos_blocks.specs.declared.services.TheConstants.{NO_MEMORY, WRONG_BLOCK}
-use Rattle.dos_blocks.specs.Blocks.{Done, first_fit, free_result, free_result_at, greatest_size, place_of_block, resize_result}
-use Rattle.dos_blocks.specs.Blocks.{resize_result_at}
-use Rattle.dos_blocks.specs.Services.{allocate_dos_block, can_have, dos_service, free_dos_block, free_result_of_segment, resize_dos_block}
+use Rattle.dos_blocks.specs.{declared.services.TheConstants.{NO_MEMORY, WRONG_BLOCK}, Blocks.{Done, first_fit, free_result, free_result_at}}
+use Rattle.dos_blocks.specs.{Blocks.{greatest_size, place_of_block, resize_result, resize_result_at}, Services.{allocate_dos_block}}
+use Rattle.dos_blocks.specs.Services.{can_have, dos_service, free_dos_block, free_result_of_segment, resize_dos_block}
 use Rattle.dos_blocks.specs.Services.{resize_result_of_place, resize_result_of_segment, segment_of_selector, served_result, with_refusal}
 use Rattle.dos_blocks.proofs.OneStep.{given_at, given_is}
 

@@ -1,27 +1,18 @@
 -- What each service puts into the arena and among the descriptors may be put.
 use Rattle.std.proofs.Common.{◌≡◌, ◌≢◌, ℕ, zero, suc, ◌+◌, ◌-◌, ◌<◌, ◌≤◌, inl, inr, true, List, [], ◌∷◌, length, get_or, refl, arith, Some}
-use Rattle.std.proofs.Common.{None}
-use Rattle.std.proofs.lemmas.Bool.{cases_order, eq-eqb, ne_eqb, false≢true}
-use Rattle.std.specs.List.{slice_get}
-use Rattle.std.proofs.lemmas.List.{get_or_past}
+use Rattle.std.proofs.{Common.{None}, lemmas.Bool.{cases_order, eq-eqb, ne_eqb, false≢true}, lemmas.List.{get_or_past}}
 use Rattle.std.proofs.lemmas.Option.{get_or_from_slice_get}
-use Rattle.client_world.specs.declared.descriptors.Origin.{Origin}
-use Rattle.client_world.specs.declared.descriptors.Origin.TheVariants.{Dos}
+use Rattle.std.specs.List.{slice_get}
+use Rattle.client_world.specs.{declared.descriptors.Origin.{Origin}, declared.descriptors.Origin.TheVariants.{Dos}}
 use Rattle.client_world.specs.declared.host_frames.TheConstants.{DESCRIPTORS, FIRST_FREE_DESCRIPTOR}
-use Rattle.client_world.specs.declared.dos_memory.DosEntry.{DosEntry}
-use Rattle.client_world.specs.declared.dos_memory.DosState.TheVariants.{Dpmi}
-use Rattle.client_world.specs.DosMemory.{Fills, is_dpmi, is_free, block_segment}
-use Rattle.client_world.specs.FreeRuns.{IsFreeRunOf}
-use Rattle.client_world.specs.Selector.{Row, row_at_index}
-use Rattle.client_world.specs.Soundness.{IsSound, HasOrigin, descriptors_for}
-use Rattle.client_world.specs.World.{World}
+use Rattle.client_world.specs.{declared.dos_memory.DosEntry.{DosEntry}, declared.dos_memory.DosState.TheVariants.{Dpmi}, DosMemory.{Fills}}
+use Rattle.client_world.specs.{DosMemory.{is_dpmi, is_free, block_segment}, FreeRuns.{IsFreeRunOf}, Selector.{Row, row_at_index}}
+use Rattle.client_world.specs.{Soundness.{IsSound, HasOrigin, descriptors_for}, World.{World}}
 use Rattle.guest_space.specs.DosRuns.{CanPutRun, block_alone, made_blocks}
 use Rattle.guest_space.proofs.Fills.{fills_at}
 use Rattle.dos_blocks.specs.Blocks.{entry_of_place, free_before, free_entries_after, joined_entry, greatest_size, run_of_block, split}
-use Rattle.dos_blocks.proofs.CallLaws.{splice_give, splice_resize, splice_free}
-use Rattle.dos_blocks.proofs.Founds.{HasFit}
-use Rattle.dos_blocks.proofs.NeighbourLaws.{behind_made, free_plain, is_before, take_one}
-use Rattle.dos_blocks.proofs.SelectorLaws.{HasBlockRun}
+use Rattle.dos_blocks.proofs.{CallLaws.{splice_give, splice_resize, splice_free}, Founds.{HasFit}, NeighbourLaws.{behind_made, free_plain}}
+use Rattle.dos_blocks.proofs.{NeighbourLaws.{is_before, take_one}, SelectorLaws.{HasBlockRun}}
 
 -- ---- where entries are
 

@@ -1,16 +1,13 @@
 -- What a selector that names the first descriptor of a block says of the block, and free runs of descriptors.
 use Rattle.std.proofs.Common.{◌≡◌, ℕ, suc, ◌+◌, ◌-◌, ◌<◌, ◌≤◌, Bool, true, false, ◌&&◌, List, length, refl, ap, ◌∙◌, sym, subst, arith}
-use Rattle.std.proofs.Common.{Option, Some, None}
+use Rattle.std.proofs.{Common.{Option, Some, None}, lemmas.Bool.{eq-eqb, false≢true, le-leb}, lemmas.Option.{none-some, slice_get-get_or}}
+use Rattle.std.proofs.Math.Bool.{and-false}
 use Rattle.std.specs.Option.{is_none, is_some}
-use Rattle.std.proofs.lemmas.Bool.{eq-eqb, false≢true, le-leb}
-use Rattle.std.proofs.lemmas.Option.{none-some, slice_get-get_or}
-use Rattle.client_world.specs.declared.descriptors.Origin.{Origin}
-use Rattle.client_world.specs.declared.descriptors.Origin.TheVariants.{Own, Low, Entry, Psp, Segment, Dos, Host}
-use Rattle.client_world.specs.declared.host_frames.TheConstants.{DESCRIPTORS, FIRST_FREE_DESCRIPTOR}
-use Rattle.client_world.specs.DosMemory.{is_dpmi, block_segment}
-use Rattle.client_world.specs.Selector.{Row, index_of, is_local, row_at_index}
-use Rattle.client_world.specs.Soundness.{IsSound, HasOrigin, HasRun, IsRunOf, descriptors_for}
-use Rattle.client_world.specs.World.{World}
+use Rattle.client_world.specs.{declared.descriptors.Origin.{Origin}, declared.descriptors.Origin.TheVariants.{Own, Low, Entry, Psp}}
+use Rattle.client_world.specs.declared.descriptors.Origin.TheVariants.{Segment, Dos, Host}
+use Rattle.client_world.specs.{declared.host_frames.TheConstants.{DESCRIPTORS, FIRST_FREE_DESCRIPTOR}, DosMemory.{is_dpmi, block_segment}}
+use Rattle.client_world.specs.{Selector.{Row, index_of, is_local, row_at_index}, Soundness.{IsSound, HasOrigin, HasRun, IsRunOf}}
+use Rattle.client_world.specs.{Soundness.{descriptors_for}, World.{World}}
 use Rattle.service_rows.specs.FreeRun.{are_free, is_free_run}
 use Rattle.dos_blocks.specs.Blocks.{missing_entry, entry_of_place, is_of_segment, segment_of_origin, segment_of_row}
 use Rattle.dos_blocks.specs.Services.{first_of_segment, place_of_segment, place_of_selector, segment_of_selector}
@@ -107,10 +104,6 @@ free_step rows first i n below =
     ∙ ap (λ (j : ℕ). is_none (row_at_index rows (first + i)) && are_free rows j (n - (i + 1)))
     (let next : first + i + 1 ≡ first + (i + 1) = omega arith in next)
 
-not_both : (a : Bool) → (a && false) ≡ false
-not_both true = refl
-not_both false = refl
-
 taken_row : (row : Row) → is_some row ≡ true → is_none row ≡ false
 taken_row None e = cc
 taken_row (Some row) e = refl
@@ -127,7 +120,7 @@ free_next rows first i n row below is free before =
 
 pub taken_run : (rows : List Row) (first i n : ℕ) (row : Row) → i < n → row ≡ row_at_index rows (first + i) → is_some row ≡ true →
     are_free rows (first + i) (n - i) ≡ are_free rows first n → false ≡ is_free_run rows first n
-taken_run rows first i n row below is taken before = grind (arith, free_step, not_both, taken_row)
+taken_run rows first i n row below is taken before = grind (arith, free_step, and-false, taken_row)
 
 free_end : (rows : List Row) (first i n : ℕ) → n ≤ i → are_free rows (first + i) (n - i) ≡ are_free rows first n →
     are_free rows first n ≡ true

@@ -1,32 +1,22 @@
 -- Every service on DOS memory leads from a sound world to a sound one, and changes registers, the megabyte, the arena and descriptors
 -- alone.
 use Rattle.std.proofs.Common.{◌≡◌, ◌≢◌, ℕ, ◌<◌, Bool, true, false, nat_eq, nat_le, nat_lt, if◌then◌else◌, inl, inr, List, length, refl, ap}
-use Rattle.std.proofs.Common.{sym, subst, arith, Option, Some, None, Result, Ok, Err}
-use Rattle.std.proofs.lemmas.Bool.{cases_eq, and_parts, eq-eqb, ne_eqb, leb-true, ltb-true}
-use Rattle.client_world.specs.declared.dos_memory.DosEntry.{DosEntry}
-use Rattle.client_world.specs.declared.dos_memory.DosRefusal.{DosRefusal}
-use Rattle.client_world.specs.declared.dos_memory.DosRefusal.TheVariants.{NoMemory, WrongBlock}
-use Rattle.client_world.specs.declared.dos_memory.DosRun.{DosRun}
-use Rattle.client_world.specs.declared.registers.Mode.TheVariants.{Protected}
-use Rattle.client_world.specs.Selector.{index_of}
-use Rattle.client_world.specs.Services.{bx, dx}
-use Rattle.client_world.specs.Soundness.{IsSound, descriptors_for}
-use Rattle.client_world.specs.World.{World}
+use Rattle.std.proofs.{Common.{sym, subst, arith, Option, Some, None, Result, Ok, Err}, lemmas.Bool.{cases_eq, and_parts, eq-eqb, ne_eqb}}
+use Rattle.std.proofs.lemmas.Bool.{leb-true, ltb-true}
+use Rattle.client_world.specs.{declared.dos_memory.DosEntry.{DosEntry}, declared.dos_memory.DosRefusal.{DosRefusal}}
+use Rattle.client_world.specs.{declared.dos_memory.DosRefusal.TheVariants.{NoMemory, WrongBlock}, declared.dos_memory.DosRun.{DosRun}}
+use Rattle.client_world.specs.{declared.registers.Mode.TheVariants.{Protected}, Selector.{index_of}, Services.{bx, dx}, Soundness.{IsSound}}
+use Rattle.client_world.specs.{Soundness.{descriptors_for}, World.{World}}
 use Rattle.client_world.proofs.SoundWrites.{IsSound-regs}
-use Rattle.guest_space.specs.Arena.{with_entries}
-use Rattle.guest_space.specs.DosRuns.{CanPutRun, with_entries_and_run}
+use Rattle.guest_space.specs.{Arena.{with_entries}, DosRuns.{CanPutRun, with_entries_and_run}}
 use Rattle.guest_space.proofs.DosRunsSound.{IsSound-run}
 use Rattle.service_rows.specs.FreeRun.{first_free_run}
-use Rattle.service_rows.proofs.RunLaws.{free_run_of, run_of_test}
-use Rattle.service_rows.proofs.WidthLaws.{protected_width}
+use Rattle.service_rows.proofs.{RunLaws.{free_run_of, run_of_test}, WidthLaws.{protected_width}}
 use Rattle.dos_blocks.specs.Blocks.{Done, entry_of_place, first_fit, free_result, free_result_at, place_of_block, greatest_size}
-use Rattle.dos_blocks.specs.Blocks.{resize_result, resize_result_at, run_of_block}
-use Rattle.dos_blocks.specs.Services.{allocate_dos_block, served_result, can_have, dos_service, free_dos_block, free_result_of_segment}
-use Rattle.dos_blocks.specs.Services.{place_of_selector, resize_dos_block, resize_result_of_segment, resize_result_of_place}
-use Rattle.dos_blocks.specs.Services.{segment_of_selector, with_refusal}
-use Rattle.dos_blocks.proofs.Founds.{found_fit}
-use Rattle.dos_blocks.proofs.NeighbourLaws.{entry_within}
-use Rattle.dos_blocks.proofs.RunPuts.{can_free_run, can_give_run, can_resize_run}
+use Rattle.dos_blocks.specs.{Blocks.{resize_result, resize_result_at, run_of_block}, Services.{allocate_dos_block, served_result, can_have}}
+use Rattle.dos_blocks.specs.Services.{dos_service, free_dos_block, free_result_of_segment, place_of_selector, resize_dos_block}
+use Rattle.dos_blocks.specs.Services.{resize_result_of_segment, resize_result_of_place, segment_of_selector, with_refusal}
+use Rattle.dos_blocks.proofs.{Founds.{found_fit}, NeighbourLaws.{entry_within}, RunPuts.{can_free_run, can_give_run, can_resize_run}}
 use Rattle.dos_blocks.proofs.OneStep.{freed_is, freed_with_run, given_at, given_is, resized_is, resized_with_run}
 use Rattle.dos_blocks.proofs.SelectorLaws.{selector_block}
 

@@ -1,17 +1,14 @@
 -- A block given, resized or freed leads from a sound world to a sound one.
 use Rattle.std.proofs.Common.{◌≡◌, ℕ, ◌+◌, List, Bool, true, false, nat_le, if◌then◌else◌, refl, sym, Option, Some, None, Ok, Err}
 use Rattle.std.proofs.lemmas.Bool.{leb-true}
-use Rattle.client_world.specs.declared.dos_memory.DosEntry.{DosEntry}
-use Rattle.client_world.specs.declared.dos_memory.DosRefusal.TheVariants.{NoMemory}
-use Rattle.client_world.specs.Soundness.{IsSound}
-use Rattle.client_world.specs.World.{World}
+use Rattle.client_world.specs.{declared.dos_memory.DosEntry.{DosEntry}, declared.dos_memory.DosRefusal.TheVariants.{NoMemory}}
+use Rattle.client_world.specs.{Soundness.{IsSound}, World.{World}}
 use Rattle.guest_space.specs.Arena.{with_entries}
 use Rattle.guest_space.proofs.ArenaWrites.{IsSound-entries}
 use Rattle.dos_blocks.specs.Blocks.{Done, first_fit, place_of_block, entry_of_place, block_state, split, free_entries_after, greatest_size}
 use Rattle.dos_blocks.specs.Blocks.{allocation_result_at, allocation_result, resize_result_at, resize_result, free_result_at, free_result}
 use Rattle.dos_blocks.specs.Puts.{CanPut}
-use Rattle.dos_blocks.proofs.CallLaws.{can_give, can_resize, can_free}
-use Rattle.dos_blocks.proofs.Founds.{found_fit, found_block}
+use Rattle.dos_blocks.proofs.{CallLaws.{can_give, can_resize, can_free}, Founds.{found_fit, found_block}}
 
 sound_put : (w : World) (place old : ℕ) (new : List DosEntry) → IsSound w → CanPut w.arena place old new →
     IsSound (with_entries w place old new)

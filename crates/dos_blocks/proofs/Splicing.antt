@@ -1,9 +1,7 @@
 -- Entries in place of others that fill the same paragraphs leave an arena, where none of them is free beside a free one.
 use Rattle.std.proofs.Common.{◌≡◌, ℕ, zero, suc, ◌+◌, ◌<◌, ◌≤◌, Bool, true, false, List, [], ◌∷◌, ◌++◌, length, get_or, take, drop, refl}
-use Rattle.std.proofs.Common.{ap, ◌∙◌, sym, subst, arith, zero-add}
-use Rattle.std.proofs.lemmas.List.{take-append-drop}
-use Rattle.client_world.specs.declared.dos_memory.DosEntry.{DosEntry}
-use Rattle.client_world.specs.declared.memory_map.TheConstants.{ARENA_START, ARENA_END}
+use Rattle.std.proofs.{Common.{ap, ◌∙◌, sym, subst, arith, zero-add}, lemmas.List.{take-append-drop}}
+use Rattle.client_world.specs.{declared.dos_memory.DosEntry.{DosEntry}, declared.memory_map.TheConstants.{ARENA_START, ARENA_END}}
 use Rattle.client_world.specs.DosMemory.{is_free, Fills, IsJoined, starts_free, IsArena}
 use Rattle.guest_space.specs.Arena.{with_replaced_entries}
 use Rattle.dos_blocks.proofs.Searches.{dropped, none_left}

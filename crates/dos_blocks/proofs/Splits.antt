@@ -1,8 +1,6 @@
 -- A block at the start of some paragraphs, and the rest of them: together they fill the paragraphs, and only the rest is free.
-use Rattle.std.proofs.Common.{◌≡◌, ℕ, ◌+◌, ◌<◌, ◌≤◌, false, length, arith}
-use Rattle.std.proofs.lemmas.Bool.{eq-eqb, ne_eqb, false≢true}
-use Rattle.client_world.specs.declared.dos_memory.DosState.{DosState}
-use Rattle.client_world.specs.DosMemory.{is_free, is_dpmi, Fills, IsJoined, starts_free}
+use Rattle.std.proofs.{Common.{◌≡◌, ℕ, ◌+◌, ◌<◌, ◌≤◌, false, length, arith}, lemmas.Bool.{eq-eqb, ne_eqb, false≢true}}
+use Rattle.client_world.specs.{declared.dos_memory.DosState.{DosState}, DosMemory.{is_free, is_dpmi, Fills, IsJoined, starts_free}}
 use Rattle.guest_space.specs.Arena.{NoneMade}
 use Rattle.dos_blocks.specs.Blocks.{split}
 

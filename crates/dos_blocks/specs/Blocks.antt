@@ -3,26 +3,16 @@
 -- Source: MS-DOS functions 48h, 49h and 4Ah, and DPMI 0.9, INT 31h functions 0100h to 0102h; the first fit, that neighbouring free entries
 -- are always joined, and that a refusal changes nothing are own.
 use Rattle.std.specs.Prelude.{ℕ, ◌≡◌, ◌≢◌, ◌≤◌, ◌+◌, ◌-◌, Bool, true, false, ◌&&◌, nat_eq, nat_le, max, if◌then◌else◌, List, [], ◌∷◌, Some}
-use Rattle.std.specs.Prelude.{None, Ok, Err, slice_index_or}
-use Rattle.std.specs.declared.option.Option.{Option}
-use Rattle.std.specs.declared.result.Result.{Result}
-use Rattle.client_world.specs.declared.descriptors.Origin.{Origin}
-use Rattle.client_world.specs.declared.descriptors.Origin.TheVariants.{Own, Low, Entry, Psp, Segment, Dos, Host}
-use Rattle.client_world.specs.declared.dos_memory.DosEntry.{DosEntry}
-use Rattle.client_world.specs.declared.dos_memory.DosRefusal.{DosRefusal}
-use Rattle.client_world.specs.declared.dos_memory.DosRefusal.TheVariants.{NoMemory, WrongBlock}
-use Rattle.client_world.specs.declared.dos_memory.DosRun.{DosRun}
-use Rattle.client_world.specs.declared.dos_memory.DosState.{DosState}
-use Rattle.client_world.specs.declared.dos_memory.DosState.TheVariants.{Free, Used, Dpmi}
-use Rattle.client_world.specs.declared.host_frames.TheConstants.{DESCRIPTORS}
-use Rattle.client_world.specs.DosMemory.{is_free, is_dpmi, block_segment}
-use Rattle.client_world.specs.Selector.{Row, row_at_index}
-use Rattle.client_world.specs.Soundness.{descriptors_for}
-use Rattle.client_world.specs.World.{World}
-use Rattle.guest_space.specs.Arena.{with_entries}
-use Rattle.guest_space.specs.DosRuns.{with_entries_and_run}
-use Rattle.service_rows.specs.FirstIndex.{first_index}
-use Rattle.service_rows.specs.FreeRun.{first_free_run, is_free_run}
+use Rattle.std.specs.{Prelude.{None, Ok, Err, slice_index_or}, declared.option.Option.{Option}, declared.result.Result.{Result}}
+use Rattle.client_world.specs.{declared.descriptors.Origin.{Origin}, declared.descriptors.Origin.TheVariants.{Own, Low, Entry, Psp}}
+use Rattle.client_world.specs.{declared.descriptors.Origin.TheVariants.{Segment, Dos, Host}, declared.dos_memory.DosEntry.{DosEntry}}
+use Rattle.client_world.specs.{declared.dos_memory.DosRefusal.{DosRefusal}, declared.dos_memory.DosRefusal.TheVariants.{NoMemory}}
+use Rattle.client_world.specs.{declared.dos_memory.DosRefusal.TheVariants.{WrongBlock}, declared.dos_memory.DosRun.{DosRun}}
+use Rattle.client_world.specs.{declared.dos_memory.DosState.{DosState}, declared.dos_memory.DosState.TheVariants.{Free, Used, Dpmi}}
+use Rattle.client_world.specs.{declared.host_frames.TheConstants.{DESCRIPTORS}, DosMemory.{is_free, is_dpmi, block_segment}, Selector.{Row}}
+use Rattle.client_world.specs.{Selector.{row_at_index}, Soundness.{descriptors_for}, World.{World}}
+use Rattle.guest_space.specs.{Arena.{with_entries}, DosRuns.{with_entries_and_run}}
+use Rattle.service_rows.specs.{FirstIndex.{first_index}, FreeRun.{first_free_run, is_free_run}}
 
 -- what a call returns, and the world after it
 pub record Done (A : Type 0) : Type 0 where

@@ -1,11 +1,8 @@
 -- The block of DOS memory that a selector names. Source: DPMI 0.9, INT 31h functions 0100h to 0102h; that it is the first of the block's
 -- selectors is own.
 use Rattle.std.specs.Prelude.{◌≡◌, ◌<◌, ℕ, true, None, length}
-use Rattle.client_world.specs.declared.descriptors.Origin.TheVariants.{Dos}
-use Rattle.client_world.specs.DosMemory.{block_segment, is_dpmi}
-use Rattle.client_world.specs.Selector.{index_of, is_local, row_at_index}
-use Rattle.client_world.specs.Services.{ax, dx}
-use Rattle.client_world.specs.Soundness.{HasOrigin, IsRunOf, descriptors_for}
+use Rattle.client_world.specs.{declared.descriptors.Origin.TheVariants.{Dos}, DosMemory.{block_segment, is_dpmi}, Selector.{index_of}}
+use Rattle.client_world.specs.{Selector.{is_local, row_at_index}, Services.{ax, dx}, Soundness.{HasOrigin, IsRunOf, descriptors_for}}
 use Rattle.client_world.specs.World.{World}
 use Rattle.dos_blocks.specs.Blocks.{entry_of_place}
 

@@ -1,11 +1,8 @@
 -- What may be put into the arena, for a block of a DOS call and for one of INT 31h function 0100h. Source: own.
 use Rattle.std.specs.Prelude.{ℕ, ◌+◌, ◌≤◌, Bool, true, false, List, length, take, drop}
-use Rattle.client_world.specs.declared.dos_memory.DosEntry.{DosEntry}
-use Rattle.client_world.specs.declared.dos_memory.DosRun.{DosRun}
-use Rattle.client_world.specs.DosMemory.{IsArena}
+use Rattle.client_world.specs.{declared.dos_memory.DosEntry.{DosEntry}, declared.dos_memory.DosRun.{DosRun}, DosMemory.{IsArena}}
 use Rattle.client_world.specs.World.{World}
-use Rattle.guest_space.specs.Arena.{NoneMade, with_replaced_entries}
-use Rattle.guest_space.specs.DosRuns.{CanPutRun}
+use Rattle.guest_space.specs.{Arena.{NoneMade, with_replaced_entries}, DosRuns.{CanPutRun}}
 
 -- what `arena_put` asks of entries in place of others
 pub record CanPut (es : List DosEntry) (place old : ℕ) (new : List DosEntry) : Type 0 where

@@ -3,20 +3,15 @@
 -- descriptor of a block, and what BX reports where descriptors are missing, is own.
 use Rattle.std.specs.Prelude.{ℕ, ◌-◌, Bool, true, ◌&&◌, None, Some, Ok, Err, nat_eq, nat_le, nat_lt, if◌then◌else◌, List}
 use Rattle.std.specs.declared.option.Option.{Option}
-use Rattle.client_world.specs.declared.dos_memory.DosEntry.{DosEntry}
-use Rattle.client_world.specs.declared.dos_memory.DosRefusal.{DosRefusal}
+use Rattle.client_world.specs.{declared.dos_memory.DosEntry.{DosEntry}, declared.dos_memory.DosRefusal.{DosRefusal}}
 use Rattle.client_world.specs.declared.dos_memory.DosRefusal.TheVariants.{NoMemory, WrongBlock}
-use Rattle.client_world.specs.declared.services.Carry.TheVariants.{Clear, Set}
-use Rattle.client_world.specs.Registers.{with_low_half}
-use Rattle.client_world.specs.Selector.{Row, index_of, is_local, row_at_index, selector_of}
-use Rattle.client_world.specs.Services.{Served, bx, dx}
-use Rattle.client_world.specs.Soundness.{descriptors_for}
+use Rattle.client_world.specs.{declared.services.Carry.TheVariants.{Clear, Set}, Registers.{with_low_half}, Selector.{Row, index_of}}
+use Rattle.client_world.specs.{Selector.{is_local, row_at_index, selector_of}, Services.{Served, bx, dx}, Soundness.{descriptors_for}}
 use Rattle.client_world.specs.World.{World}
-use Rattle.service_rows.specs.Rows.{with_ax, with_bx}
-use Rattle.service_rows.specs.FreeRun.{first_free_run}
-use Rattle.dos_blocks.specs.declared.services.TheConstants.{NO_MEMORY, WRONG_BLOCK}
-use Rattle.dos_blocks.specs.Blocks.{Done, allocation_result, entry_of_place, free_result, has_room_to_grow, is_of_segment, largest}
-use Rattle.dos_blocks.specs.Blocks.{place_of_block, greatest_size, resize_result, run_of_block, segment_of_row}
+use Rattle.service_rows.specs.{Rows.{with_ax, with_bx}, FreeRun.{first_free_run}}
+use Rattle.dos_blocks.specs.{declared.services.TheConstants.{NO_MEMORY, WRONG_BLOCK}, Blocks.{Done, allocation_result, entry_of_place}}
+use Rattle.dos_blocks.specs.Blocks.{free_result, has_room_to_grow, is_of_segment, largest, place_of_block, greatest_size, resize_result}
+use Rattle.dos_blocks.specs.Blocks.{run_of_block, segment_of_row}
 
 abbrev pub with_dx : ℕ → World → World
 with_dx v w = record w { regs = record w.regs { edx = with_low_half w.regs.edx v } }

@@ -1,17 +1,11 @@
 // What holds of every service. Each is a function with nothing to do: its contract is the law.
 ghost use Rattle.std.specs.Prelude.{ℕ, ◌≡◌, ◌↔◌, ◌+◌, ◌<◌, ◌≤◌, ◌⊎◌, true, List, length, Some, Ok};
-ghost use Rattle.client_world.specs.declared.dos_memory.DosRun.{DosRun};
-ghost use Rattle.client_world.specs.declared.registers.Mode.TheVariants.{Protected as protected};
-ghost use Rattle.client_world.specs.declared.services.Carry.TheVariants.{Set as set};
-ghost use Rattle.client_world.specs.DosMemory.{block_segment, is_dpmi};
-ghost use Rattle.client_world.specs.Selector.{Row, row_at_index};
-ghost use Rattle.client_world.specs.Services.{bx, dx};
-ghost use Rattle.client_world.specs.Soundness.{IsSound};
-ghost use Rattle.client_world.specs.World.{World};
+ghost use Rattle.client_world.specs.{declared.dos_memory.DosRun.{DosRun}, declared.registers.Mode.TheVariants.{Protected as protected}};
+ghost use Rattle.client_world.specs.{declared.services.Carry.TheVariants.{Set as set}, DosMemory.{block_segment, is_dpmi}, Selector.{Row}};
+ghost use Rattle.client_world.specs.{Selector.{row_at_index}, Services.{bx, dx}, Soundness.{IsSound}, World.{World}};
 ghost use Rattle.guest_space.specs.DosRuns.{dos_row, with_dos_rows};
 ghost use Rattle.service_rows.specs.Reasons.{HasOtherAxAndBx};
-ghost use Rattle.dos_blocks.specs.Blocks.{entry_of_place};
-ghost use Rattle.dos_blocks.specs.Named.{HasNewBlock, LosesDescriptors, NamesBlock};
+ghost use Rattle.dos_blocks.specs.{Blocks.{entry_of_place}, Named.{HasNewBlock, LosesDescriptors, NamesBlock}};
 ghost use Rattle.dos_blocks.specs.Services.{allocate_dos_block, dos_service, free_dos_block, place_of_selector};
 
 /// A service leads from a sound world of protected mode to a sound one: of the descriptors of DOS blocks, each belongs to a block, and a

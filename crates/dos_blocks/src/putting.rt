@@ -1,7 +1,6 @@
 // What a call puts into the arena, with the descriptors of a block that has them.
 ghost use Rattle.std.specs.Prelude.{◌≡◌};
-ghost use Rattle.dos_blocks.specs.Blocks.{first_descriptor, new_descriptor, with_block};
-ghost use Rattle.dos_blocks.specs.Puts.{CanPutBlock};
+ghost use Rattle.dos_blocks.specs.{Blocks.{first_descriptor, new_descriptor, with_block}, Puts.{CanPutBlock}};
 
 use crate::selectors::descriptor_of_block;
 use arrayvec::ArrayVec;

@@ -1,6 +1,5 @@
 // A block is resized.
-ghost use Rattle.std.specs.Prelude.{◌≡◌, ◌≢◌, true, None, OnErr};
-ghost use Rattle.std.specs.Bool.{OnTrue};
+ghost use Rattle.std.specs.{Prelude.{◌≡◌, ◌≢◌, true, None, OnErr}, Bool.{OnTrue}};
 ghost use Rattle.dos_blocks.specs.Blocks.{CanResize, resize_result};
 
 use crate::allocating::split;

@@ -1,7 +1,6 @@
 // The block whose first descriptor a selector names, and runs of descriptors that are free.
 ghost use Rattle.std.specs.Prelude.{◌≡◌, ◌<◌};
-ghost use Rattle.client_world.specs.declared.host_frames.TheConstants.{DESCRIPTORS};
-ghost use Rattle.client_world.specs.Selector.{row_at_index};
+ghost use Rattle.client_world.specs.{declared.host_frames.TheConstants.{DESCRIPTORS}, Selector.{row_at_index}};
 ghost use Rattle.service_rows.specs.FreeRun.{is_free_run};
 ghost use Rattle.dos_blocks.specs.Blocks.{descriptor_of_block, has_room_to_grow, is_of_segment, segment_of_origin, segment_of_row};
 ghost use Rattle.dos_blocks.specs.Services.{segment_of_selector};

@@ -2,8 +2,7 @@
 ghost use Rattle.std.specs.Prelude.{◌≡◌, ◌≢◌, None, OnErr, OnOk};
 ghost use Rattle.client_world.specs.declared.registers.Mode.TheVariants.{Protected as protected};
 ghost use Rattle.client_world.specs.declared.services.Carry.TheVariants.{Clear, Set};
-ghost use Rattle.dos_blocks.specs.Services.{allocate_dos_block, served_result, dos_service, free_dos_block, resize_dos_block};
-ghost use Rattle.dos_blocks.specs.Services.{with_dx};
+ghost use Rattle.dos_blocks.specs.Services.{allocate_dos_block, served_result, dos_service, free_dos_block, resize_dos_block, with_dx};
 
 use crate::allocating::dos_alloc;
 use crate::finding::{largest, place_of_block};

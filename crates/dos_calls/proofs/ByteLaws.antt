@@ -1,11 +1,8 @@
 -- Bytes at a segment and an offset, one after the other.
 use Rattle.std.proofs.Common.{◌≡◌, ◌≢◌, ℕ, zero, suc, ◌+◌, ◌-◌, ◌<◌, ◌≤◌, false, List, [], ◌∷◌, ◌++◌, length, get_or, drop, refl, ap, ◌∙◌}
-use Rattle.std.proofs.Common.{sym, arith}
+use Rattle.std.proofs.{Common.{sym, arith}, lemmas.Bool.Decides.{nat_tests}, lemmas.List.{drop_all}}
 use Rattle.std.specs.Prelude.{nat_eq}
-use Rattle.std.proofs.lemmas.Bool.Decides.{nat_tests}
-use Rattle.std.proofs.lemmas.List.{drop_all}
-use Rattle.client_world.specs.Access.{real_address}
-use Rattle.client_world.specs.World.{World}
+use Rattle.client_world.specs.{Access.{real_address}, World.{World}}
 use Rattle.guest_space.specs.Dos.{with_dos_byte}
 use Rattle.dos_calls.specs.DosBytes.{byte_at, with_dos_bytes_at, bytes_from, text_from}
 use Rattle.dos_calls.proofs.LineLaws.{rest_is}

@@ -1,28 +1,15 @@
 -- Lists of bytes: their parts, and those that are read from the megabyte.
-use Rattle.std.proofs.Common.{ℕ, zero, suc, ◌+◌, ◌/◌, ◌%◌, ◌<◌, ◌≤◌, List, [], ◌∷◌, ◌++◌, length, take, drop, arith, nat_eq, if◌then◌else◌}
-use Rattle.std.proofs.Common.{Bool, true, false, Option, None, Some}
-use Rattle.client_world.specs.Access.{real_address}
-use Rattle.client_world.specs.Soundness.{SoundMegabyte}
-use Rattle.host_memory.specs.Vectors.{word_bytes}
-use Rattle.dos_calls.specs.Calls.{line_of}
+use Rattle.std.proofs.Common.{ℕ, zero, suc, ◌+◌, ◌<◌, ◌≤◌, List, [], ◌∷◌, length, take, drop, arith, nat_eq, if◌then◌else◌, Bool, true}
+use Rattle.std.proofs.Common.{false, Option, None, Some}
+use Rattle.client_world.specs.{Access.{real_address}, Soundness.{SoundMegabyte}}
+use Rattle.dos_calls.specs.{Calls.{line_of}, DosBytes.{byte_at, bytes_from, text_from}}
 use Rattle.guest_ram.specs.Bytes.{AreBytes}
-use Rattle.dos_calls.specs.DosBytes.{byte_at, bytes_from, text_from}
+use Rattle.guest_ram.proofs.ByteLists.{more_bytes, no_bytes}
 
 -- ---- parts
 
-pub no_bytes : AreBytes []
-no_bytes at = omega arith
-
-pub more_bytes : (x : ℕ) (xs : List ℕ) → x < 0x100 → AreBytes xs → AreBytes (x ∷ xs)
-more_bytes x xs small rest zero = small
-more_bytes x xs small rest (suc at) = rest at
-
 pub bytes_behind : (x : ℕ) (xs : List ℕ) → AreBytes (x ∷ xs) → AreBytes xs
 bytes_behind x xs bytes = λ at. bytes (suc at)
-
-pub bytes_append : (xs ys : List ℕ) → AreBytes xs → AreBytes ys → AreBytes (xs ++ ys)
-bytes_append [] ys one other = other
-bytes_append (x ∷ xs) ys one other = more_bytes x (xs ++ ys) (one 0) (bytes_append xs ys (bytes_behind x xs one) other)
 
 pub bytes_take : (n : ℕ) (xs : List ℕ) → AreBytes xs → AreBytes (take n xs)
 bytes_take zero xs bytes = no_bytes
@@ -42,11 +29,6 @@ length-taken (suc n) (x ∷ xs) = omega (arith, length-taken n xs)
 pub bytes_if : (c : Bool) (xs ys : List ℕ) → AreBytes xs → AreBytes ys → AreBytes (if c then xs else ys)
 bytes_if true xs ys one other = one
 bytes_if false xs ys one other = other
-
--- ---- those of words
-
-pub bytes_word : (v : ℕ) → v < 0x10000 → AreBytes (word_bytes v)
-bytes_word v small = more_bytes (v % 0x100) (v / 0x100 ∷ []) (omega arith) (more_bytes (v / 0x100) [] (omega arith) no_bytes)
 
 -- ---- those that are read
 

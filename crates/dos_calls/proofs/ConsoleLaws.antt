@@ -1,13 +1,11 @@
 -- Bytes added to a console, one after the other.
 use Rattle.std.proofs.Common.{◌≡◌, ℕ, zero, suc, ◌+◌, ◌-◌, ◌<◌, ◌≤◌, Bool, true, false, List, [], ◌∷◌, ◌++◌, length, take, length-append}
-use Rattle.std.proofs.Common.{append_assoc, append-nil, refl, ap, subst, ◌∙◌, sym, arith}
-use Rattle.std.specs.Prelude.{nat_le, nat_lt, if◌then◌else◌}
-use Rattle.std.proofs.lemmas.Bool.{le-leb, lt-leb, leb-true}
-use borrow.Author.Tests.{ltb-true, ltb-false}
+use Rattle.std.proofs.{Common.{append_assoc, append-nil, refl, ap, subst, ◌∙◌, sym, arith}, lemmas.Bool.{le-leb, lt-leb, leb-true}}
 use Rattle.std.proofs.lemmas.List.{take_all}
+use Rattle.std.specs.Prelude.{nat_le, nat_lt, if◌then◌else◌}
+use borrow.Author.Tests.{ltb-true, ltb-false}
 use Rattle.client_world.specs.declared.limits.TheConstants.{CONSOLE_ROOM}
-use Rattle.dos_calls.specs.Answering.{console_with}
-use Rattle.dos_calls.specs.Calls.{has_room}
+use Rattle.dos_calls.specs.{Answering.{console_with}, Calls.{has_room}}
 
 -- what is left to add leads to the same end as all of it at the start
 pub record Adds (console bytes now rest : List ℕ) : Type 0 where

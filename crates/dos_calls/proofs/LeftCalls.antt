@@ -2,26 +2,19 @@
 -- machine, and but for a full console the keys and the console.
 use Rattle.std.proofs.Common.{◌≡◌, ◌≢◌, ◌∙◌, ℕ, ◌+◌, ◌||◌, List, [], ◌∷◌, length, take, append-nil, refl, sym, ap, nat_eq, nat_le}
 use Rattle.std.proofs.Common.{if◌then◌else◌, Bool, true, false, Option, None, Some, Result, Ok, Err}
-use Rattle.client_world.specs.declared.dos_memory.DosEntry.{DosEntry}
-use Rattle.client_world.specs.declared.dos_memory.DosRefusal.{DosRefusal}
+use Rattle.client_world.specs.{declared.dos_memory.DosEntry.{DosEntry}, declared.dos_memory.DosRefusal.{DosRefusal}}
 use Rattle.client_world.specs.declared.dos_memory.DosRefusal.TheVariants.{NoMemory, WrongBlock}
-use Rattle.client_world.specs.declared.limits.TheConstants.{CONSOLE_ROOM}
-use Rattle.client_world.specs.declared.outcome.Exit.{Exit}
-use Rattle.client_world.specs.declared.outcome.Exit.TheVariants.{NoKeys, ConsoleFull}
-use Rattle.client_world.specs.declared.registers.Regs.{Regs}
-use Rattle.client_world.specs.declared.services.DosDone.TheVariants.{Ended}
-use Rattle.client_world.specs.Registers.{low_byte, high_byte, low_half}
-use Rattle.client_world.specs.World.{World}
+use Rattle.client_world.specs.{declared.limits.TheConstants.{CONSOLE_ROOM}, declared.outcome.Exit.{Exit}}
+use Rattle.client_world.specs.{declared.outcome.Exit.TheVariants.{NoKeys, ConsoleFull}, declared.registers.Regs.{Regs}}
+use Rattle.client_world.specs.{declared.services.DosDone.TheVariants.{Ended}, Registers.{low_byte, high_byte, low_half}, World.{World}}
+use Rattle.client_world.specs.Console.{Extends}
 use Rattle.guest_space.specs.Arena.{with_entries}
 use Rattle.dos_blocks.specs.Blocks.{Done, first_fit, place_of_block, greatest_size, allocation_result_at, allocation_result}
 use Rattle.dos_blocks.specs.Blocks.{resize_result_at, resize_result, free_result_at, free_result}
-use Rattle.dos_calls.specs.Calls as calls
 use Rattle.dos_calls.specs.Calls.{CallResult, CallState, served_call, ended_call, print_result, poll_key, line_result, line_of, keys_result}
-use Rattle.dos_calls.specs.Calls.{with_memory_error, after_allocate_call, after_block_call, dos_call}
-use Rattle.dos_calls.specs.DosBytes.{byte_at}
-use Rattle.dos_calls.specs.Multiplex.{multiplex_call, with_entry}
-use Rattle.dos_calls.specs.Kept.{HasOtherDosMemory, HasSameStack}
-use Rattle.client_world.specs.Console.{Extends}
+use Rattle.dos_calls.specs.{Calls.{with_memory_error, after_allocate_call, after_block_call, dos_call}, DosBytes.{byte_at}}
+use Rattle.dos_calls.specs.{Multiplex.{multiplex_call, with_entry}, Kept.{HasOtherDosMemory, HasSameStack}}
+use Rattle.dos_calls.specs.Calls as calls
 
 -- what no call changes, as one value: DOS memory and the registers that some call changes are blank
 abbrev pub rest_of : World → World

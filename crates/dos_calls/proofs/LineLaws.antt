@@ -1,11 +1,8 @@
 -- The first line of the keys, one key after the other.
 use Rattle.std.proofs.Common.{◌≡◌, ◌≢◌, ℕ, suc, ◌+◌, ◌<◌, ◌≤◌, false, List, [], ◌∷◌, ◌++◌, length, get_or, take, drop, append_assoc}
-use Rattle.std.proofs.Common.{append-nil, refl, ap, ◌∙◌, sym, arith, Some, None}
-use Rattle.std.specs.Prelude.{nat_eq}
-use Rattle.std.proofs.lemmas.Bool.Decides.{nat_tests}
-use Rattle.std.specs.declared.option.Option.{Option}
-use Rattle.std.proofs.Math.Seq.{drop-cons}
+use Rattle.std.proofs.{Common.{append-nil, refl, ap, ◌∙◌, sym, arith, Some, None}, lemmas.Bool.Decides.{nat_tests}, Math.Seq.{drop-cons}}
 use Rattle.std.proofs.lemmas.List.{take_more, drop_all}
+use Rattle.std.specs.{Prelude.{nat_eq}, declared.option.Option.{Option}}
 use Rattle.dos_calls.specs.Calls.{line_of}
 
 -- a line with keys before it

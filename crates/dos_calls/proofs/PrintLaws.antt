@@ -1,11 +1,10 @@
 -- What a call that prints comes to, by whether the console had room for all.
 use Rattle.std.proofs.Common.{◌≡◌, ℕ, ◌+◌, ◌-◌, Bool, List, [], ◌∷◌, ◌++◌, take, drop, ap, ◌∙◌, sym, arith, Some}
 use Rattle.std.specs.Prelude.{if◌then◌else◌}
-use Rattle.client_world.specs.declared.outcome.Exit.TheVariants.{ConsoleFull}
-use Rattle.client_world.specs.declared.services.DosDone.TheVariants.{Served, Ended}
+use Rattle.client_world.specs.{declared.outcome.Exit.TheVariants.{ConsoleFull}, declared.services.DosDone.TheVariants.{Served, Ended}}
 use Rattle.client_world.specs.World.{World}
-use Rattle.dos_calls.specs.Answering.{console_with}
-use Rattle.dos_calls.specs.Calls.{CallState, CallResult, print_result, with_line, line_of, line_result, has_room}
+use Rattle.dos_calls.specs.{Answering.{console_with}, Calls.{CallState, CallResult, print_result, with_line, line_of, line_result}}
+use Rattle.dos_calls.specs.Calls.{has_room}
 
 abbrev pub printing : CallState → List ℕ → World → List ℕ → Bool → CallResult
 printing s bytes world keys all = record {

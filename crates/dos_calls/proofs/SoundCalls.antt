@@ -1,33 +1,27 @@
 -- A call leads from a sound world to a sound one. Where the keys are bytes, those that are left are bytes, and so is what it writes.
 use Rattle.std.proofs.Common.{ℕ, ◌+◌, ◌-◌, ◌*◌, ◌<◌, ◌||◌, List, [], ◌∷◌, ◌++◌, length, take, drop, arith, nat_eq, nat_le, if◌then◌else◌}
 use Rattle.std.proofs.Common.{Bool, true, false, Option, None, Some, Result, Ok, Err}
-use Rattle.client_world.specs.declared.dos_memory.DosRefusal.{DosRefusal}
-use Rattle.client_world.specs.declared.dos_memory.DosRefusal.TheVariants.{NoMemory, WrongBlock}
-use Rattle.client_world.specs.declared.limits.TheConstants.{CONSOLE_ROOM}
-use Rattle.client_world.specs.declared.memory_map.TheConstants.{PSP_SEGMENT, SEGMENT_SIZE}
-use Rattle.client_world.specs.declared.outcome.Exit.{Exit}
-use Rattle.client_world.specs.declared.outcome.Exit.TheVariants.{NoKeys}
-use Rattle.client_world.specs.Access.{real_address}
-use Rattle.client_world.specs.Registers.{low_byte, high_byte, low_half}
-use Rattle.client_world.specs.Soundness.{IsSound}
-use Rattle.client_world.specs.World.{World}
-use Rattle.client_world.proofs.SoundWrites.{IsSound-dos}
-use Rattle.dos_blocks.specs.declared.services.TheConstants.{NO_MEMORY, WRONG_BLOCK}
-use Rattle.dos_blocks.specs.Blocks.{allocation_result, free_result, resize_result}
+use Rattle.client_world.specs.{declared.dos_memory.DosRefusal.{DosRefusal}, declared.dos_memory.DosRefusal.TheVariants.{NoMemory}}
+use Rattle.client_world.specs.{declared.dos_memory.DosRefusal.TheVariants.{WrongBlock}, declared.limits.TheConstants.{CONSOLE_ROOM}}
+use Rattle.client_world.specs.{declared.memory_map.TheConstants.{PSP_SEGMENT, SEGMENT_SIZE}, declared.outcome.Exit.{Exit}}
+use Rattle.client_world.specs.{declared.outcome.Exit.TheVariants.{NoKeys}, Access.{real_address}, Registers.{low_byte, high_byte, low_half}}
+use Rattle.client_world.specs.{Soundness.{IsSound}, World.{World}}
+use Rattle.client_world.proofs.SoundWrites.{IsSound-dos, sound_general}
+use Rattle.dos_blocks.specs.{declared.services.TheConstants.{NO_MEMORY, WRONG_BLOCK}, Blocks.{allocation_result, free_result}}
+use Rattle.dos_blocks.specs.Blocks.{resize_result}
 use Rattle.service_rows.specs.Rows.{with_ax, with_bx}
 use Rattle.dos_blocks.proofs.SoundBlocks.{sound_allocated, sound_freed, sound_resized}
 use Rattle.guest_ram.specs.Bytes.{AreBytes, word_of}
 use Rattle.host_memory.specs.Vectors.{word_bytes}
-use Rattle.dos_calls.specs.Calls as calls
 use Rattle.dos_calls.specs.Calls.{CallResult, CallState, served_call, ended_call, print_result, with_al, with_error, without_carry}
 use Rattle.dos_calls.specs.Calls.{poll_key, with_line, line_result, line_of, keys_result, bad_handle, with_memory_error}
-use Rattle.dos_calls.specs.Calls.{after_allocate_call, after_block_call, bad_function, dos_call}
-use Rattle.dos_calls.specs.DosBytes.{byte_at, with_dos_bytes_at}
+use Rattle.dos_calls.specs.{Calls.{after_allocate_call, after_block_call, bad_function, dos_call}, DosBytes.{byte_at, with_dos_bytes_at}}
 use Rattle.dos_calls.specs.Multiplex.{with_entry, multiplex_call}
-use Rattle.dos_calls.proofs.ByteLists.{no_bytes, more_bytes, bytes_behind, bytes_append, bytes_take, bytes_drop, length-taken, bytes_word}
-use Rattle.dos_calls.proofs.ByteLists.{bytes_read, bytes_text, LineOfBytes, bytes_line}
-use Rattle.dos_calls.proofs.SoundWorlds.{sound_bytes, sound_carry, sound_zero, sound_general, sound_es, sound_al, sound_ax, sound_bx}
-use Rattle.dos_calls.proofs.SoundWorlds.{sound_error}
+use Rattle.dos_calls.proofs.ByteLists.{bytes_behind, bytes_take, bytes_drop, length-taken, bytes_read, bytes_text, LineOfBytes, bytes_line}
+use Rattle.dos_calls.proofs.SoundWorlds.{sound_bytes, sound_carry, sound_zero, sound_es, sound_al, sound_bx, sound_error}
+use Rattle.guest_ram.proofs.ByteLists.{bytes_word, join_bytes, more_bytes, no_bytes}
+use Rattle.service_rows.proofs.AnswerLaws.{sound_ax}
+use Rattle.dos_calls.specs.Calls as calls
 
 -- what a call sees, and what it comes to, where the console was this
 
@@ -58,11 +52,11 @@ keeps_printed : (s : CallState) (xs : List ℕ) (w : World) (keys : List ℕ) �
 unfolding print_result
 keeps_printed s xs w keys seen bytes sound left =
     keeps_if s (nat_le (length s.console + length xs) CONSOLE_ROOM) _ _
-    (record { world = sound; keys = left; console = λ console. bytes_append s.console xs console bytes })
+    (record { world = sound; keys = left; console = λ console. join_bytes s.console xs console bytes })
     (record {
       world = seen.world;
       keys = left;
-      console = λ console. bytes_append s.console (take (CONSOLE_ROOM - length s.console) xs) console
+      console = λ console. join_bytes s.console (take (CONSOLE_ROOM - length s.console) xs) console
           (bytes_take (CONSOLE_ROOM - length s.console) xs bytes);
     })
 
@@ -117,7 +111,7 @@ sound_line : (w : World) (line : List ℕ) → IsSound w → AreBytes line → l
 sound_line w line s bytes short = IsSound-dos w _ s
     (sound_bytes _ w.regs.ds (low_half w.regs.edx + 1) (length line ∷ [])
     (sound_bytes w.dos w.regs.ds (low_half w.regs.edx + 2) (line ++ 0x0D ∷ []) s.megabyte
-    (bytes_append line (0x0D ∷ []) bytes (one_byte 0x0D (omega arith))))
+    (join_bytes line (0x0D ∷ []) bytes (one_byte 0x0D (omega arith))))
     (one_byte (length line) short))
 
 keeps_line : (s : CallState) (n : ℕ) (o : Option (List ℕ × List ℕ)) → n < 0x100 → Seen s → LineOfBytes o → Keeps s (line_result s n o)
@@ -126,7 +120,7 @@ keeps_line s n (Some whole) small seen line =
     let taken = take (n - 1) whole.0 in
     let bytes = bytes_take (n - 1) whole.0 line.0 in
     keeps_printed s (taken ++ 0x0D ∷ []) (with_line s.world taken) whole.1 seen
-    (bytes_append taken (0x0D ∷ []) bytes (one_byte 0x0D (omega arith)))
+    (join_bytes taken (0x0D ∷ []) bytes (one_byte 0x0D (omega arith)))
     (sound_line s.world taken seen.world bytes (omega (arith, length-taken (n - 1) whole.0))) line.1
 
 keeps_read_line : (s : CallState) → Seen s → Keeps s (calls.read_line s)
@@ -152,7 +146,7 @@ keeps_set_vector s seen =
     keeps_served s _ s.keys
     (IsSound-dos w _ seen.world
     (sound_bytes w.dos 0 (4 * low_byte w.regs.eax) (word_bytes offset ++ word_bytes w.regs.ds) seen.world.megabyte
-    (bytes_append (word_bytes offset) (word_bytes w.regs.ds) (bytes_word offset (omega arith))
+    (join_bytes (word_bytes offset) (word_bytes w.regs.ds) (bytes_word offset (omega arith))
     (bytes_word w.regs.ds seen.world.segments.ds))))
     seen.keys
 

@@ -1,10 +1,8 @@
 -- How the contracts of the calls are said: what is left after the console, what a call serves, what ends. Source: own.
 use Rattle.std.specs.Prelude.{◌≡◌, ℕ, ◌+◌, ◌-◌, Bool, true, false, if◌then◌else◌, List, [], ◌∷◌, ◌++◌, length, take, drop, Some, None}
 use Rattle.std.specs.declared.option.Option.{Option}
-use Rattle.client_world.specs.declared.limits.TheConstants.{CONSOLE_ROOM}
-use Rattle.client_world.specs.declared.services.DosDone.{DosDone}
-use Rattle.client_world.specs.declared.services.DosDone.TheVariants.{Served, Ended}
-use Rattle.client_world.specs.World.{World}
+use Rattle.client_world.specs.{declared.limits.TheConstants.{CONSOLE_ROOM}, declared.services.DosDone.{DosDone}}
+use Rattle.client_world.specs.{declared.services.DosDone.TheVariants.{Served, Ended}, World.{World}}
 use Rattle.dos_calls.specs.Calls.{CallResult, CallState, has_room}
 
 -- the console with the bytes after it, or with as many as fit

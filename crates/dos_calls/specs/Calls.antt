@@ -1,25 +1,20 @@
 -- The DOS calls of INT 21h, by AH, and what is served of INT 2Fh. A call sees the machine, the keys that are left, and the console.
 -- Source: MS-DOS functions 01h to 62h; which of them there are, and what a full console and missing keys do, is own.
 use Rattle.std.specs.Prelude.{ℕ, Bool, ◌+◌, ◌-◌, ◌*◌, true, false, ◌||◌, nat_eq, nat_le, if◌then◌else◌, List, [], ◌∷◌, ◌++◌, length, take}
-use Rattle.std.specs.Prelude.{drop, Some, None, Ok, Err}
-use Rattle.std.specs.declared.option.Option.{Option}
-use Rattle.client_world.specs.declared.dos_memory.DosRefusal.{DosRefusal}
-use Rattle.client_world.specs.declared.dos_memory.DosRefusal.TheVariants.{NoMemory, WrongBlock}
-use Rattle.client_world.specs.declared.limits.TheConstants.{CONSOLE_ROOM}
-use Rattle.client_world.specs.declared.memory_map.TheConstants.{PSP_SEGMENT, SEGMENT_SIZE}
-use Rattle.client_world.specs.declared.outcome.Exit.{Exit}
-use Rattle.client_world.specs.declared.outcome.Exit.TheVariants as exits
-use Rattle.client_world.specs.declared.registers.TheConstants.{CARRY_BIT, ZERO_BIT}
-use Rattle.client_world.specs.declared.services.DosDone.{DosDone}
-use Rattle.client_world.specs.declared.services.DosDone.TheVariants.{Served, Ended}
-use Rattle.client_world.specs.Registers.{low_byte, high_byte, low_half, with_low_byte, with_low_half}
-use Rattle.client_world.specs.World.{World}
+use Rattle.std.specs.{Prelude.{drop, Some, None, Ok, Err}, declared.option.Option.{Option}}
+use Rattle.client_world.specs.{declared.dos_memory.DosRefusal.{DosRefusal}, declared.dos_memory.DosRefusal.TheVariants.{NoMemory}}
+use Rattle.client_world.specs.{declared.dos_memory.DosRefusal.TheVariants.{WrongBlock}, declared.limits.TheConstants.{CONSOLE_ROOM}}
+use Rattle.client_world.specs.{declared.memory_map.TheConstants.{PSP_SEGMENT, SEGMENT_SIZE}, declared.outcome.Exit.{Exit}}
+use Rattle.client_world.specs.{declared.registers.TheConstants.{CARRY_BIT, ZERO_BIT}, declared.services.DosDone.{DosDone}}
+use Rattle.client_world.specs.{declared.services.DosDone.TheVariants.{Served, Ended}, Registers.{low_byte, high_byte, low_half}}
+use Rattle.client_world.specs.{Registers.{with_low_byte, with_low_half}, World.{World}}
 use Rattle.guest_ram.specs.Bytes.{word_of}
 use Rattle.host_memory.specs.Vectors.{word_bytes}
-use Rattle.dos_blocks.specs.declared.services.TheConstants.{NO_MEMORY, WRONG_BLOCK}
-use Rattle.dos_blocks.specs.Blocks.{Done, allocation_result, free_result, resize_result}
+use Rattle.dos_blocks.specs.{declared.services.TheConstants.{NO_MEMORY, WRONG_BLOCK}, Blocks.{Done, allocation_result, free_result}}
+use Rattle.dos_blocks.specs.Blocks.{resize_result}
 use Rattle.service_rows.specs.Rows.{with_ax, with_bx}
 use Rattle.dos_calls.specs.DosBytes.{byte_at, with_dos_bytes_at, bytes_from, text_from, with_stacked}
+use Rattle.client_world.specs.declared.outcome.Exit.TheVariants as exits
 
 -- what a call comes to
 pub record CallResult : Type 0 where

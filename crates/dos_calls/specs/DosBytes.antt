@@ -1,7 +1,6 @@
 -- Bytes of the DOS megabyte as DOS calls see them: at a segment and an offset, which wraps in its segment. Source: own.
 use Rattle.std.specs.Prelude.{ℕ, ◌+◌, ◌*◌, ◌/◌, ◌%◌, Bool, zero, suc, List, [], ◌∷◌, cond, nat_eq, if◌then◌else◌, slice_index}
-use Rattle.client_world.specs.Access.{real_address}
-use Rattle.client_world.specs.World.{World}
+use Rattle.client_world.specs.{Access.{real_address}, World.{World}}
 use Rattle.guest_space.specs.Dos.{with_dos_byte}
 
 -- the byte at segment:offset

@@ -1,10 +1,7 @@
 -- INT 2Fh. Source: DPMI 0.9, INT 2Fh function 1687h, "Obtain Real to Protected Mode Switch Entry Point".
 use Rattle.std.specs.Prelude.{◌-◌, nat_eq, if◌then◌else◌}
-use Rattle.client_world.specs.declared.memory_map.TheConstants.{ROM_SEGMENT, ROM_START}
-use Rattle.client_world.specs.declared.registers.Regs.{Regs}
-use Rattle.client_world.specs.declared.traps.TheConstants.{ENTRY_TRAP}
-use Rattle.client_world.specs.Registers.{low_half, with_low_byte, with_low_half}
-use Rattle.client_world.specs.World.{World}
+use Rattle.client_world.specs.{declared.memory_map.TheConstants.{ROM_SEGMENT, ROM_START}, declared.registers.Regs.{Regs}}
+use Rattle.client_world.specs.{declared.traps.TheConstants.{ENTRY_TRAP}, Registers.{low_half, with_low_byte, with_low_half}, World.{World}}
 
 -- the host is there: flags with 32-bit programs, processor 80386, version 0.90, no private paragraphs, and the entry
 abbrev pub with_entry : Regs → Regs

@@ -1,11 +1,8 @@
 // Bytes of the DOS megabyte at a segment and an offset, which wraps in its segment.
 ghost use Rattle.std.specs.Prelude.{◌≡◌, ◌≤◌, ◌<◌, ◌+◌, length};
-ghost use Rattle.client_world.specs.declared.memory_map.TheConstants.{DOS_SIZE};
-ghost use Rattle.client_world.specs.Access.{real_address};
+ghost use Rattle.client_world.specs.{declared.memory_map.TheConstants.{DOS_SIZE}, Access.{real_address}};
 ghost use Rattle.guest_space.specs.Dos.{with_dos_byte};
-ghost use Rattle.dos_calls.specs.DosBytes.{byte_at, with_dos_bytes_at, bytes_from, text_from};
-ghost use Rattle.dos_calls.specs.Answering.{console_with};
-ghost use Rattle.dos_calls.specs.Calls.{has_room};
+ghost use Rattle.dos_calls.specs.{DosBytes.{byte_at, with_dos_bytes_at, bytes_from, text_from}, Answering.{console_with}, Calls.{has_room}};
 
 use crate::console::Console;
 use client_world::memory_map::SEGMENT_SIZE;

@@ -1,8 +1,7 @@
 // What the client wrote.
 ghost use Rattle.std.specs.Prelude.{◌≡◌, ◌≤◌, ℕ, List, [], ◌∷◌, ◌++◌, length, nat_lt, if◌then◌else◌, IfOk, vec_capacity};
 ghost use Rattle.client_world.specs.declared.limits.TheConstants.{CONSOLE_ROOM};
-ghost use Rattle.dos_calls.specs.Answering.{console_with};
-ghost use Rattle.dos_calls.specs.Calls.{has_room};
+ghost use Rattle.dos_calls.specs.{Answering.{console_with}, Calls.{has_room}};
 
 use client_world::limits::CONSOLE_ROOM;
 use std::alloc::{AllocError, Global};

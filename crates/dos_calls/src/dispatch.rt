@@ -1,7 +1,6 @@
 // INT 21h, by AH.
 ghost use Rattle.std.specs.Prelude.{◌≡◌};
-ghost use Rattle.dos_calls.specs.Calls.{dos_call};
-ghost use Rattle.dos_calls.specs.Answering.{IfEnded};
+ghost use Rattle.dos_calls.specs.{Calls.{dos_call}, Answering.{IfEnded}};
 
 use crate::characters::{
     ask_key, direct_console, read_echo, read_key, write_character, write_text,

@@ -1,8 +1,7 @@
 // The calls on files: 0 is the keys, 1 and 2 are the console.
 ghost use Rattle.std.specs.Prelude.{◌≡◌, List, ℕ, take};
 ghost use Rattle.client_world.specs.Registers.{low_half};
-ghost use Rattle.dos_calls.specs.Calls.{read_file, write_file, keys_result};
-ghost use Rattle.dos_calls.specs.Answering.{IfEnded};
+ghost use Rattle.dos_calls.specs.{Calls.{read_file, write_file, keys_result}, Answering.{IfEnded}};
 
 use crate::bytes::{print_bytes, put_bytes};
 use crate::console::Console;

@@ -1,7 +1,6 @@
 // The keys that are left.
 ghost use Rattle.std.specs.Prelude.{◌≡◌, ◌≤◌, ◌<◌, ◌+◌, ℕ, List, [], ◌∷◌, length, take, drop, IfOk, IfSome, MatchOption};
-ghost use Rattle.dos_calls.specs.Calls.{line_of};
-ghost use Rattle.dos_calls.specs.Answering.{any_left, line_at};
+ghost use Rattle.dos_calls.specs.{Calls.{line_of}, Answering.{any_left, line_at}};
 ghost use Rattle.guest_ram.specs.Bytes.{AreBytes};
 
 use guest_space::are_bytes;

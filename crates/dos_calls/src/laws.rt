@@ -1,15 +1,9 @@
 // What holds of every call. Each is a function with nothing to do: its contract is the law.
 ghost use Rattle.std.specs.Prelude.{◌≡◌, ◌≢◌};
-ghost use Rattle.client_world.specs.declared.outcome.Exit.{Exit as AnExit};
-ghost use Rattle.client_world.specs.declared.outcome.Exit.TheVariants.{ConsoleFull};
-ghost use Rattle.client_world.specs.declared.services.DosDone.TheVariants.{Ended};
-ghost use Rattle.client_world.specs.Soundness.{IsSound};
-ghost use Rattle.client_world.specs.World.{World};
-ghost use Rattle.dos_calls.specs.Calls.{CallState, dos_call};
+ghost use Rattle.client_world.specs.{declared.outcome.Exit.{Exit as AnExit}, declared.outcome.Exit.TheVariants.{ConsoleFull}};
+ghost use Rattle.client_world.specs.{declared.services.DosDone.TheVariants.{Ended}, Soundness.{IsSound}, World.{World}, Console.{Extends}};
+ghost use Rattle.dos_calls.specs.{Calls.{CallState, dos_call}, Multiplex.{multiplex_call}, Kept.{HasOtherDosMemory, HasSameStack}};
 ghost use Rattle.guest_ram.specs.Bytes.{AreBytes};
-ghost use Rattle.dos_calls.specs.Multiplex.{multiplex_call};
-ghost use Rattle.client_world.specs.Console.{Extends};
-ghost use Rattle.dos_calls.specs.Kept.{HasOtherDosMemory, HasSameStack};
 
 /// A call leads from a sound world to a sound one, where the keys are bytes. Those that are left are bytes, and a console of bytes stays
 /// one. Source: own.

@@ -1,7 +1,6 @@
 // The call that takes a line of keys.
 ghost use Rattle.std.specs.Prelude.{◌≡◌, ◌<◌, ◌+◌, [], ◌∷◌, ◌++◌, Some, take, drop, length};
-ghost use Rattle.dos_calls.specs.Calls.{has_room, with_line, line_of, line_result, read_line};
-ghost use Rattle.dos_calls.specs.Answering.{console_with, IfEnded};
+ghost use Rattle.dos_calls.specs.{Calls.{has_room, with_line, line_of, line_result, read_line}, Answering.{console_with, IfEnded}};
 
 use crate::bytes::{byte_at, put_bytes};
 use crate::console::Console;

@@ -1,7 +1,6 @@
 // The calls on blocks of DOS memory.
 ghost use Rattle.std.specs.Prelude.{◌≡◌};
-ghost use Rattle.dos_calls.specs.Calls.{allocate, free, with_memory_error, resize};
-ghost use Rattle.dos_calls.specs.Answering.{Serves};
+ghost use Rattle.dos_calls.specs.{Calls.{allocate, free, with_memory_error, resize}, Answering.{Serves}};
 
 use crate::registers::{refuse, set_carry};
 use client_world::{DosRefusal, low_half};

@@ -1,8 +1,7 @@
 // The parts of registers that DOS calls read and return values in, and the flags that they return.
 ghost use Rattle.std.specs.Prelude.{◌≡◌};
 ghost use Rattle.client_world.specs.declared.registers.TheConstants.{CARRY_BIT, ZERO_BIT};
-ghost use Rattle.dos_calls.specs.Calls.{with_al, with_error};
-ghost use Rattle.dos_calls.specs.DosBytes.{with_bit, with_stacked};
+ghost use Rattle.dos_calls.specs.{Calls.{with_al, with_error}, DosBytes.{with_bit, with_stacked}};
 
 use crate::bytes::stacked_flags;
 use client_world::with_low_byte;

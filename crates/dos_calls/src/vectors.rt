@@ -1,7 +1,6 @@
 // The calls on vectors, the version, the prefix, and the end of the client.
 ghost use Rattle.std.specs.Prelude.{◌≡◌, List, ℕ};
-ghost use Rattle.dos_calls.specs.Calls.{set_vector, dos_version, get_vector, get_prefix, terminate, unknown_function};
-ghost use Rattle.dos_calls.specs.Answering.{Serves};
+ghost use Rattle.dos_calls.specs.{Calls.{set_vector, dos_version, get_vector, get_prefix, terminate, unknown_function}, Answering.{Serves}};
 
 use crate::bytes::put_bytes;
 use crate::registers::refuse;

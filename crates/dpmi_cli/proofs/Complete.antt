@@ -1,23 +1,14 @@
 -- What is answered where nothing fails, and what words that mean nothing get.
-use Rattle.std.proofs.Common.{arith, ◌≡◌, ◌≢◌, ◌<◌, ◌≤◌, ◌⊎◌, inl, inr, ℕ, List, [], sym, subst, ap}
-use Rattle.std.specs.Prelude.{None, Some, IfSome, IsSomeAnd, Contains}
-use Rattle.std.specs.Option.{option_map}
-use Rattle.std.specs.declared.option.Option.{Option}
-use Rattle.std.proofs.lemmas.Bool.Decides.{eqb_tells}
+use Rattle.std.proofs.{Common.{arith, ◌≡◌, ◌≢◌, ◌<◌, ◌≤◌, ◌⊎◌, inl, inr, ℕ, List, [], sym, subst, ap}, lemmas.Bool.Decides.{eqb_tells}}
+use Rattle.std.specs.{Prelude.{None, Some, IfSome, IsSomeAnd, Contains}, Option.{option_map}, declared.option.Option.{Option}}
 use Rattle.client_world.specs.declared.limits.TheConstants.{DEFAULT_BOUND}
 use Rattle.dpmi_words.specs.Meaning.{meaning}
 use Rattle.watch_run.specs.Turn.{watched_run}
-use Rattle.dpmi_io.specs.Causes.{Rose}
-use Rattle.dpmi_io.specs.Content.{Files, Shown, Gains}
-use Rattle.dpmi_cli.specs.declared.prepare.Prepared.{Prepared}
-use Rattle.dpmi_cli.specs.declared.prepare.Reason.TheVariants.{Words}
-use Rattle.dpmi_cli.specs.Answer.{Verdict, Refuses, Starts, StartsMade, StartsPair, verdict, verdict_of, answer, answer_to}
-use Rattle.dpmi_cli.specs.Causes.{NamedFailed, IsAbsent, HasVerdict, Answers}
-use Rattle.dpmi_cli.specs.Load.{verdict_in}
-use Rattle.dpmi_cli.specs.Runs.{host_at_end}
-use Rattle.dpmi_cli.specs.Words.{file_names, names_in}
-use Rattle.dpmi_cli.proofs.Files.{no_verdict}
-use Rattle.dpmi_cli.proofs.SmallStatus.{pair_status-small, run_status-small}
+use Rattle.dpmi_io.specs.{Causes.{Rose}, Content.{Files, Shown, Gains}}
+use Rattle.dpmi_cli.specs.{declared.prepare.Prepared.{Prepared}, declared.prepare.Reason.TheVariants.{Words}, Answer.{Verdict, Refuses}}
+use Rattle.dpmi_cli.specs.{Answer.{Starts, StartsMade, StartsPair, verdict, verdict_of, answer, answer_to}, Causes.{NamedFailed, IsAbsent}}
+use Rattle.dpmi_cli.specs.{Causes.{HasVerdict, Answers}, Load.{verdict_in}, Runs.{host_at_end}, Words.{file_names, names_in}}
+use Rattle.dpmi_cli.proofs.{Files.{no_verdict}, SmallStatus.{pair_status-small, run_status-small}}
 
 -- where the output didn't fail, the answer is whole
 pub gives_whole : (v : Verdict) (before now : Shown) (m n result : ℕ) → Answers v before now m n result →

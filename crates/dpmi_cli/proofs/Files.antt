@@ -1,12 +1,9 @@
 -- The files that are read, and the verdict on them.
-use Rattle.std.proofs.Common.{arith, ◌≡◌, ◌≤◌, ℕ, List, [], length, take, refl, sym, ◌∙◌, ap, subst}
-use Rattle.std.specs.Prelude.{None, Some, IfSome, IsSome, IsSomeAnd, option_map}
-use Rattle.std.proofs.lemmas.List.{take_all, length-take-le}
-use Rattle.std.specs.declared.option.Option.{Option}
-use Rattle.client_world.specs.declared.limits.TheConstants.{DEFAULT_PAGES, MAX_KEYS, MAX_TRACE}
-use Rattle.client_world.specs.declared.outcome.LoadFault.{LoadFault}
-use Rattle.client_world.specs.Soundness.{IsSound}
-use Rattle.client_world.specs.World.{HostWorld}
+use Rattle.std.proofs.{Common.{arith, ◌≡◌, ◌≤◌, ℕ, List, [], length, take, refl, sym, ◌∙◌, ap, subst}, lemmas.List.{take_all}}
+use Rattle.std.proofs.lemmas.List.{length-take-le}
+use Rattle.std.specs.{Prelude.{None, Some, IfSome, IsSome, IsSomeAnd, option_map}, declared.option.Option.{Option}}
+use Rattle.client_world.specs.{declared.limits.TheConstants.{DEFAULT_PAGES, MAX_KEYS, MAX_TRACE}, declared.outcome.LoadFault.{LoadFault}}
+use Rattle.client_world.specs.{Soundness.{IsSound}, World.{HostWorld}}
 use Rattle.guest_ram.specs.Bytes.{AreBytes}
 use Rattle.client_maker.specs.Made.{made}
 use Rattle.host_memory.specs.Blank.{blank_world}
@@ -14,10 +11,9 @@ use Rattle.mz_loader.specs.Refusal.{refusal}
 use Rattle.host_run.specs.Start.{host_at_start, blank, IsBlank}
 use Rattle.dpmi_words.specs.Meaning.{Pressed, Meaning, meaning}
 use Rattle.dpmi_io.specs.Content.{Files, Starts as Opens}
-use Rattle.dpmi_cli.specs.declared.prepare.Reason.TheVariants.{Words, Load}
-use Rattle.dpmi_cli.specs.Answer.{Verdict, Refuses, StartsMade, keys_from, bytes_within, made_verdict, verdict_of}
-use Rattle.dpmi_cli.specs.Causes.{HasVerdict, OfFiles}
-use Rattle.dpmi_cli.specs.Load.{HasFront, HasPressed, IsReady}
+use Rattle.dpmi_cli.specs.{declared.prepare.Reason.TheVariants.{Words, Load}, Answer.{Verdict, Refuses, StartsMade, keys_from}}
+use Rattle.dpmi_cli.specs.{Answer.{bytes_within, made_verdict, verdict_of}, Causes.{HasVerdict, OfFiles}, Load.{HasFront, HasPressed}}
+use Rattle.dpmi_cli.specs.Load.{IsReady}
 
 -- what holds of the files
 

@@ -1,27 +1,17 @@
 -- The turns of a host as those of a client of a pair, and the answer that a pair gives.
 use Rattle.std.proofs.Common.{◌≡◌, ◌≤◌, ◌+◌, ℕ, zero, suc, None, Some, refl, sym, ◌∙◌, ap, subst}
-use Rattle.std.specs.Prelude.{IsSome, Result, Ok, Err, OnOk, max}
-use Rattle.std.specs.declared.option.Option.{Option}
-use Rattle.client_world.specs.declared.outcome.Exit.{Exit}
-use Rattle.client_world.specs.declared.outcome.Exit.TheVariants.{Bound}
-use Rattle.client_world.specs.World.{HostWorld}
-use Rattle.host_run.specs.Run.{with_bound_exit}
-use Rattle.dpmi_io.specs.Causes.{Rose}
-use Rattle.dpmi_io.specs.Content.{Shown, Gains, GainsPart}
-use Rattle.dpmi_io.specs.Puts.{Puts}
-use Rattle.pair_run.specs.Slices.{OwnRun, own_run, slices_text}
-use Rattle.pair_run.specs.Run.{IsFirst, closed_by, run_of, turns_of}
+use Rattle.std.specs.{Prelude.{IsSome, Result, Ok, Err, OnOk, max}, declared.option.Option.{Option}}
+use Rattle.client_world.specs.{declared.outcome.Exit.{Exit}, declared.outcome.Exit.TheVariants.{Bound}, World.{HostWorld}}
 use Rattle.client_world.specs.WatchWorld.{WatchWorld, Watching, no_watches, host_without_watches}
+use Rattle.host_run.specs.Run.{with_bound_exit}
+use Rattle.dpmi_io.specs.{Causes.{Rose}, Content.{Shown, Gains, GainsPart}, Puts.{Puts}}
+use Rattle.pair_run.specs.{Slices.{OwnRun, own_run, slices_text}, Run.{IsFirst, closed_by, run_of, turns_of}}
 use Rattle.pair_run.proofs.OwnRuns.{client_of, over, turns_more}
-use Rattle.dpmi_cli.specs.Answer.{StartsPair, pair_status, run_status}
-use Rattle.dpmi_cli.specs.Causes.{Answers}
-use Rattle.dpmi_cli.specs.Laws.{RunKeepsTheLaws}
-use Rattle.dpmi_cli.specs.Load.{IsReady}
+use Rattle.dpmi_cli.specs.{Answer.{StartsPair, pair_status, run_status}, Causes.{Answers}, Laws.{RunKeepsTheLaws}, Load.{IsReady}}
 use Rattle.dpmi_cli.specs.Pairs.{host_with_bound_exit, host_console, host_exit, host_steps, pair_text, sliced}
 use Rattle.watch_run.specs.Turn.{run_with_watchpoints, turn_with_watchpoints, turns_with_watchpoints, watched_run}
 use Rattle.watch_run.proofs.WatchedTurns.{counts, extends, stays}
-use Rattle.dpmi_cli.proofs.RunAnswers.{cut, whole}
-use Rattle.dpmi_cli.proofs.SmallStatus.{pair_status-small}
+use Rattle.dpmi_cli.proofs.{RunAnswers.{cut, whole}, SmallStatus.{pair_status-small}}
 
 -- ---- turns
 

@@ -1,15 +1,12 @@
 -- The loads of the two files of a pair, and the verdict on them.
 use Rattle.std.proofs.Common.{◌≡◌, ℕ, List, [], sym, ◌∙◌, ap}
 use Rattle.std.specs.Prelude.{None, Some}
-use Rattle.client_world.specs.declared.limits.TheConstants.{DEFAULT_TRACE}
-use Rattle.client_world.specs.declared.outcome.LoadFault.{LoadFault}
-use Rattle.client_world.specs.World.{HostWorld}
+use Rattle.client_world.specs.{declared.limits.TheConstants.{DEFAULT_TRACE}, declared.outcome.LoadFault.{LoadFault}, World.{HostWorld}}
 use Rattle.mz_loader.specs.Refusal.{refusal}
 use Rattle.host_run.specs.Start.{host_at_start}
 use Rattle.dpmi_words.specs.Meaning.{PairMeaning}
 use Rattle.pair_run.specs.declared.lines.Letter.TheVariants.{A, B}
-use Rattle.dpmi_cli.specs.declared.prepare.Reason.TheVariants.{LoadOf}
-use Rattle.dpmi_cli.specs.Answer.{Verdict, Refuses, StartsPair, first_load, second_load}
+use Rattle.dpmi_cli.specs.{declared.prepare.Reason.TheVariants.{LoadOf}, Answer.{Verdict, Refuses, StartsPair, first_load, second_load}}
 use Rattle.dpmi_cli.specs.Load.{HasPairRanges, IsNew, IsReady}
 
 pub second_refused : (p : PairMeaning) (a : HostWorld) (b : List ℕ) (fault : LoadFault) → refusal b ≡ Some fault →

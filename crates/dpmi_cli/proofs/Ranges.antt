@@ -1,17 +1,13 @@
 -- The numbers of a run that words mean lie in their ranges.
 use Rattle.std.proofs.Common.{arith, ◌≡◌, ◌≤◌, inl, inr, ℕ, List, [], ◌∷◌, refl, ap, subst, ◌∙◌, Option, None, Some, nat_le}
-use Rattle.std.specs.Prelude.{◌&&◌, codes, option_map}
-use Rattle.std.specs.Str.{bytes_eq}
-use Rattle.std.specs.Str.Parse.{digits_value}
-use Rattle.std.proofs.lemmas.Bool.{and_parts, cases_Bool, leb-true}
-use Rattle.std.proofs.lemmas.Option.{option_and_then_some, same_Some}
+use Rattle.std.proofs.{lemmas.Bool.{and_parts, cases_Bool, leb-true}, lemmas.Option.{option_and_then_some, same_Some}}
+use Rattle.std.specs.{Prelude.{◌&&◌, codes, option_map}, Str.{bytes_eq}, Str.Parse.{digits_value}}
 use Rattle.client_world.specs.declared.limits.TheConstants.{MAX_STEPS, DEFAULT_BOUND, MAX_PAGES, MAX_PAIR_PAGES, DEFAULT_PAGES, MAX_TRACE}
 use Rattle.client_world.specs.declared.limits.TheConstants.{DEFAULT_TRACE, DEFAULT_SLICE, GREATEST_TIMER, MAX_SLICE}
 use Rattle.dpmi_words.specs.Meaning.{Keys, Meaning, PairMeaning, RunMeaning, Runs, Soaks, Pairs, pair_meaning, pair_of_values, pair_with}
-use Rattle.dpmi_words.specs.Meaning.{run_with, run_of_values, run_meaning, soak_meaning, meaning}
-use Rattle.dpmi_words.specs.Numbers.{number_if_given, is_between, is_decimal, number_in_text, number_or}
-use Rattle.dpmi_words.specs.Options.{pair_options, run_options}
-use Rattle.dpmi_words.specs.Reading.{Text, given_by, one_operand, pair_operands, value_given}
+use Rattle.dpmi_words.specs.{Meaning.{run_with, run_of_values, run_meaning, soak_meaning, meaning}, Numbers.{number_if_given, is_between}}
+use Rattle.dpmi_words.specs.{Numbers.{is_decimal, number_in_text, number_or}, Options.{pair_options, run_options}, Reading.{Text, given_by}}
+use Rattle.dpmi_words.specs.Reading.{one_operand, pair_operands, value_given}
 use Rattle.dpmi_cli.specs.Load.{CanTick, HasPairRanges, HasRanges}
 
 in_text : (digits least most n : ℕ) (text : Text) → number_in_text digits least most text ≡ Some n → (least ≤ n) × (n ≤ most)

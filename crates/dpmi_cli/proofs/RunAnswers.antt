@@ -1,27 +1,16 @@
 -- The answer that a run gives, written whole or cut off.
-use Rattle.std.proofs.Common.{arith, ◌≡◌, ◌<◌, ◌≤◌, ◌+◌, inl, inr, ℕ, List, length, sym, ◌∙◌, subst, refl, ap}
-use Rattle.std.specs.Prelude.{None, Some, Result, Ok, Err, OnOk, OnErr}
-use Rattle.std.specs.declared.option.Option.{Option}
-use Rattle.std.proofs.lemmas.List.{take_all}
-use Rattle.client_world.specs.declared.outcome.Exit.{Exit}
-use Rattle.client_world.specs.declared.limits.TheConstants.{DEFAULT_BOUND}
-use Rattle.client_world.specs.World.{HostWorld}
+use Rattle.std.proofs.{Common.{arith, ◌≡◌, ◌<◌, ◌≤◌, ◌+◌, inl, inr, ℕ, List, length, sym, ◌∙◌, subst, refl, ap}, lemmas.List.{take_all}}
+use Rattle.std.specs.{Prelude.{None, Some, Result, Ok, Err, OnOk, OnErr}, declared.option.Option.{Option}}
+use Rattle.client_world.specs.{declared.outcome.Exit.{Exit}, declared.limits.TheConstants.{DEFAULT_BOUND}, World.{HostWorld}}
 use Rattle.client_world.specs.Soundness.{IsSound}
-use Rattle.host_run.specs.HandOver.{HandsOver}
-use Rattle.host_run.specs.Nested.{HasTurns, IsHandedOver, LastPush, Matched, host_depth}
+use Rattle.host_run.specs.{HandOver.{HandsOver}, Nested.{HasTurns, IsHandedOver, LastPush, Matched, host_depth}}
 use Rattle.host_run.specs.RealCalls.{InterruptSource}
 use Rattle.watch_run.specs.Turn.{watched_run}
-use Rattle.dpmi_io.specs.Causes.{Rose}
-use Rattle.dpmi_io.specs.Content.{Shown, Gains, GainsPart}
-use Rattle.dpmi_report.specs.Exits.{exit_status}
-use Rattle.dpmi_report.specs.Summary.{summary, summary_at}
-use Rattle.dpmi_report.specs.Text.{text}
-use Rattle.dpmi_cli.specs.declared.prepare.Reason.{Reason}
-use Rattle.dpmi_cli.specs.Answer.{Verdict, Refuses, Starts, StartsMade, answer_to, run_status}
-use Rattle.dpmi_cli.specs.Causes.{Answers}
-use Rattle.dpmi_cli.specs.Laws.{OfItsRun, KeepsTheLaws, NestsByOneRecord, ReturnsInOrder, RunKeepsTheLaws, RunSeen, TouchesWhatIsHeld}
-use Rattle.dpmi_cli.specs.Runs.{host_at_end}
-use Rattle.dpmi_cli.specs.Text.{line_of_refusal}
+use Rattle.dpmi_io.specs.{Causes.{Rose}, Content.{Shown, Gains, GainsPart}}
+use Rattle.dpmi_report.specs.{Exits.{exit_status}, Summary.{summary, summary_at}, Text.{text}}
+use Rattle.dpmi_cli.specs.{declared.prepare.Reason.{Reason}, Answer.{Verdict, Refuses, Starts, StartsMade, answer_to, run_status}}
+use Rattle.dpmi_cli.specs.{Causes.{Answers}, Laws.{OfItsRun, KeepsTheLaws, NestsByOneRecord, ReturnsInOrder, RunKeepsTheLaws, RunSeen}}
+use Rattle.dpmi_cli.specs.{Laws.{TouchesWhatIsHeld}, Runs.{host_at_end}, Text.{line_of_refusal}}
 use Rattle.dpmi_cli.proofs.SmallStatus.{run_status-small}
 
 -- the whole is a part

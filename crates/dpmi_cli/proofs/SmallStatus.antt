@@ -1,9 +1,7 @@
 -- The statuses of exits and runs.
 use Rattle.std.proofs.Common.{arith, ◌<◌}
 use Rattle.std.specs.Prelude.{None, Some}
-use Rattle.client_world.specs.declared.outcome.Exit.{Exit}
-use Rattle.client_world.specs.declared.outcome.Exit.TheVariants.{Exited}
-use Rattle.client_world.specs.World.{HostWorld}
+use Rattle.client_world.specs.{declared.outcome.Exit.{Exit}, declared.outcome.Exit.TheVariants.{Exited}, World.{HostWorld}}
 use Rattle.dpmi_report.specs.Exits.{exit_status}
 use Rattle.dpmi_cli.specs.Answer.{pair_status, run_status}
 

@@ -2,25 +2,18 @@
 use Rattle.std.specs.Prelude.{ℕ, List, [], length, max, nat_lt, if◌then◌else◌, None, Some, option_map, option_and_then}
 use Rattle.std.specs.declared.option.Option.{Option}
 use Rattle.client_world.specs.declared.limits.TheConstants.{DEFAULT_BOUND, DEFAULT_PAGES, DEFAULT_TRACE, MAX_FILE, MAX_KEYS, MAX_TRACE}
-use Rattle.client_world.specs.declared.outcome.LoadFault.{LoadFault}
-use Rattle.client_world.specs.World.{HostWorld}
+use Rattle.client_world.specs.{declared.outcome.LoadFault.{LoadFault}, World.{HostWorld}}
 use Rattle.client_maker.specs.Made.{made}
 use Rattle.dpmi_words.specs.Meaning.{Keys, Pressed, Stored, RunMeaning, PairMeaning, Meaning, Runs, Soaks, Pairs, meaning}
 use Rattle.host_run.specs.Start.{host_at_start}
 use Rattle.mz_loader.specs.Refusal.{refusal}
 use Rattle.watch_run.specs.Turn.{watched_run}
 use Rattle.dpmi_io.specs.Content.{Files}
-use Rattle.dpmi_report.specs.declared.exits.TheConstants.{ENDED_OTHERWISE}
-use Rattle.dpmi_report.specs.Exits.{exit_status}
-use Rattle.dpmi_report.specs.Summary.{summary}
-use Rattle.dpmi_report.specs.Text.{text}
-use Rattle.dpmi_cli.specs.declared.prepare.Reason.{Reason}
-use Rattle.dpmi_cli.specs.declared.prepare.Reason.TheVariants.{Words, FileTooLong, KeysTooLong, Load, FileTooLongOf, LoadOf}
-use Rattle.dpmi_cli.specs.declared.status.TheConstants.{REFUSED}
+use Rattle.dpmi_report.specs.{declared.exits.TheConstants.{ENDED_OTHERWISE}, Exits.{exit_status}, Summary.{summary}, Text.{text}}
+use Rattle.dpmi_cli.specs.{declared.prepare.Reason.{Reason}, declared.prepare.Reason.TheVariants.{Words, FileTooLong, KeysTooLong, Load}}
+use Rattle.dpmi_cli.specs.{declared.prepare.Reason.TheVariants.{FileTooLongOf, LoadOf}, declared.status.TheConstants.{REFUSED}}
+use Rattle.dpmi_cli.specs.{Pairs.{pair_text}, Runs.{host_at_end}, Text.{line_of_refusal}}
 use Rattle.pair_run.specs.declared.lines.Letter.TheVariants.{A, B}
-use Rattle.dpmi_cli.specs.Pairs.{pair_text}
-use Rattle.dpmi_cli.specs.Runs.{host_at_end}
-use Rattle.dpmi_cli.specs.Text.{line_of_refusal}
 
 -- what comes of the words and the files: a refusal; the world in which a run starts, its timer, if it has one, and its bound; the number of
 -- a made client and the world in which its run starts; or the turns of a slice, the bound and the worlds in which the runs of two clients

@@ -1,13 +1,9 @@
 -- What a call of the command wrote and returned, and why. Source: own.
-use Rattle.std.specs.Prelude.{ℕ, List, ◌≡◌, ◌⊎◌, ◌<◌, None, Some, Contains, IsSomeAnd}
-use Rattle.std.specs.declared.option.Option.{Option}
+use Rattle.std.specs.{Prelude.{ℕ, List, ◌≡◌, ◌⊎◌, ◌<◌, None, Some, Contains, IsSomeAnd}, declared.option.Option.{Option}}
 use Rattle.dpmi_words.specs.Meaning.{meaning}
-use Rattle.dpmi_io.specs.Causes.{Rose}
-use Rattle.dpmi_io.specs.Content.{Files, Shown, Gains, GainsPart}
-use Rattle.dpmi_cli.specs.declared.status.TheConstants.{REFUSED, OUTPUT_FAILED}
-use Rattle.dpmi_cli.specs.Words.{file_names}
-use Rattle.dpmi_cli.specs.Answer.{Verdict, verdict_of, answer, answer_to}
-use Rattle.dpmi_cli.specs.Laws.{OfItsRun, RunKeepsTheLaws}
+use Rattle.dpmi_io.specs.{Causes.{Rose}, Content.{Files, Shown, Gains, GainsPart}}
+use Rattle.dpmi_cli.specs.{declared.status.TheConstants.{REFUSED, OUTPUT_FAILED}, Words.{file_names}, Answer.{Verdict, verdict_of, answer}}
+use Rattle.dpmi_cli.specs.{Answer.{answer_to}, Laws.{OfItsRun, RunKeepsTheLaws}}
 
 -- a file that the words name failed: the count of faults rose, and the file that is blamed is one of theirs
 abbrev pub NamedFailed : List (List ℕ) → ℕ → ℕ → Option (List ℕ) → Type 0

@@ -1,13 +1,8 @@
 -- What holds of the runs that a verdict starts. Source: own.
-use Rattle.std.specs.Prelude.{◌+◌, ◌≤◌, ℕ, List, All, None, Some, ⊤}
-use Rattle.std.specs.declared.option.Option.{Option}
-use Rattle.client_world.specs.declared.place.Place.{Place}
-use Rattle.client_world.specs.Access.{IsHeld}
-use Rattle.client_world.specs.WatchWorld.{host_without_watches}
-use Rattle.client_world.specs.World.{HostWorld}
-use Rattle.host_run.specs.HandOver.{HandsOver}
-use Rattle.host_run.specs.Nested.{IsHandedOver, LastPush, Matched, Stacked, host_depth}
-use Rattle.host_run.specs.RealCalls.{InterruptSource, from_client}
+use Rattle.std.specs.{Prelude.{◌+◌, ◌≤◌, ℕ, List, All, None, Some, ⊤}, declared.option.Option.{Option}}
+use Rattle.client_world.specs.{declared.place.Place.{Place}, Access.{IsHeld}, WatchWorld.{host_without_watches}, World.{HostWorld}}
+use Rattle.host_run.specs.{HandOver.{HandsOver}, Nested.{IsHandedOver, LastPush, Matched, Stacked, host_depth}, RealCalls.{InterruptSource}}
+use Rattle.host_run.specs.RealCalls.{from_client}
 use Rattle.watch_run.specs.Turn.{touched_by_watch_turn, turns_with_watchpoints, watched_turns}
 use Rattle.timer_run.specs.Rounds.{source_of_round, timed_rounds, timed_turns, touched_by_round}
 use Rattle.dpmi_cli.specs.Answer.{Verdict, Refuses, Starts, StartsMade, StartsPair}

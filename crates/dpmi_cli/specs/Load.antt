@@ -1,22 +1,16 @@
 -- What comes before a run: the files that are read, and the client that is loaded. Source: own.
 use Rattle.std.specs.Prelude.{ℕ, List, [], ◌∷◌, ◌≡◌, ◌≤◌, ◌<◌, ◌⊎◌, take, None, Some, Ok, Err, Contains, IsSomeAnd, ⊤, option_map}
-use Rattle.std.specs.declared.option.Option.{Option}
-use Rattle.std.specs.declared.result.Result.{Result}
+use Rattle.std.specs.{declared.option.Option.{Option}, declared.result.Result.{Result}}
 use Rattle.client_world.specs.declared.limits.TheConstants.{GREATEST_TIMER, MAX_KEYS, MAX_PAGES, MAX_SLICE, MAX_STEPS, MAX_TRACE}
-use Rattle.client_world.specs.World.{HostWorld}
-use Rattle.client_world.specs.Soundness.{IsSound}
+use Rattle.client_world.specs.{World.{HostWorld}, Soundness.{IsSound}}
 use Rattle.host_run.specs.Keys.{HasKeys}
 use Rattle.dpmi_words.specs.Meaning.{Keys, PairMeaning, RunMeaning}
-use Rattle.dpmi_io.specs.Causes.{Rose}
-use Rattle.dpmi_io.specs.Content.{Files, Lacks}
-use Rattle.dpmi_cli.specs.declared.prepare.Prepared.{Prepared}
-use Rattle.dpmi_cli.specs.declared.prepare.Prepared.TheVariants as prepared
-use Rattle.dpmi_cli.specs.declared.prepare.Stop.{Stop}
-use Rattle.dpmi_cli.specs.declared.prepare.Stop.TheVariants.{Memory, Shelf}
-use Rattle.dpmi_cli.specs.Answer.{Verdict, Refuses, Starts, StartsMade, StartsPair, file_verdict, first_verdict, keys_from, bytes_within}
-use Rattle.dpmi_cli.specs.Answer.{pair_verdict, run_verdict}
-use Rattle.dpmi_cli.specs.Causes.{OfFiles}
+use Rattle.dpmi_io.specs.{Causes.{Rose}, Content.{Files, Lacks}}
+use Rattle.dpmi_cli.specs.{declared.prepare.Prepared.{Prepared}, declared.prepare.Stop.{Stop}, declared.prepare.Stop.TheVariants.{Memory}}
+use Rattle.dpmi_cli.specs.{declared.prepare.Stop.TheVariants.{Shelf}, Answer.{Verdict, Refuses, Starts, StartsMade, StartsPair}}
+use Rattle.dpmi_cli.specs.{Answer.{file_verdict, first_verdict, keys_from, bytes_within, pair_verdict, run_verdict}, Causes.{OfFiles}}
 use Rattle.dpmi_cli.specs.Words.{key_file_names}
+use Rattle.dpmi_cli.specs.declared.prepare.Prepared.TheVariants as prepared
 
 -- these bytes are the first of the file of that name, so many at most
 abbrev pub HasFront : ℕ → Option Files → List ℕ → List ℕ → Type 0

@@ -1,16 +1,12 @@
 -- A host with its watchpoints as a client that takes turns, and the text of two of them. Source: own.
-use Rattle.std.specs.Prelude.{ℕ, List, ◌++◌, codes, Some}
-use Rattle.std.specs.declared.option.Option.{Option}
-use Rattle.client_world.specs.declared.outcome.Exit.{Exit}
-use Rattle.client_world.specs.declared.outcome.Exit.TheVariants.{Bound}
-use Rattle.client_world.specs.World.{HostWorld}
+use Rattle.std.specs.{Prelude.{ℕ, List, ◌++◌, codes, Some}, declared.option.Option.{Option}}
+use Rattle.client_world.specs.{declared.outcome.Exit.{Exit}, declared.outcome.Exit.TheVariants.{Bound}, World.{HostWorld}}
+use Rattle.client_world.specs.WatchWorld.{WatchWorld, host_without_watches}
 use Rattle.watch_run.specs.Turn.{turn_with_watchpoints, watched_run}
 use Rattle.dpmi_io.specs.LineEnd.{line_end}
 use Rattle.dpmi_report.specs.Text.{text}
-use Rattle.pair_run.specs.declared.lines.Letter.{Letter}
-use Rattle.pair_run.specs.declared.lines.Letter.TheVariants.{A, B}
-use Rattle.pair_run.specs.Slices.{OwnRun, letter_text, own_run, slices_text}
-use Rattle.client_world.specs.WatchWorld.{WatchWorld, host_without_watches}
+use Rattle.pair_run.specs.{declared.lines.Letter.{Letter}, declared.lines.Letter.TheVariants.{A, B}, Slices.{OwnRun, letter_text, own_run}}
+use Rattle.pair_run.specs.Slices.{slices_text}
 
 -- the run ends at its bound
 abbrev pub host_with_bound_exit : WatchWorld → WatchWorld

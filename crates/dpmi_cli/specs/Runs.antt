@@ -1,6 +1,5 @@
 -- The runs of one client that the command makes: with the client's watchpoints, and with a timer where the words have one. Source: own.
-use Rattle.std.specs.Prelude.{ℕ, None, Some}
-use Rattle.std.specs.declared.option.Option.{Option}
+use Rattle.std.specs.{Prelude.{ℕ, None, Some}, declared.option.Option.{Option}}
 use Rattle.client_world.specs.World.{HostWorld}
 use Rattle.timer_run.specs.Rounds.{timed_run}
 use Rattle.watch_run.specs.Turn.{watched_run}

@@ -1,11 +1,11 @@
 -- What is written of a refusal. Source: own.
 use Rattle.std.specs.Prelude.{ℕ, List, [], ◌++◌, codes}
 use Rattle.client_world.specs.declared.outcome.LoadFault.{LoadFault}
-use Rattle.client_world.specs.declared.outcome.LoadFault.TheVariants as fault
 use Rattle.dpmi_io.specs.LineEnd.{line_end}
 use Rattle.pair_run.specs.Slices.{letter_text}
-use Rattle.dpmi_cli.specs.declared.prepare.Reason.{Reason}
-use Rattle.dpmi_cli.specs.declared.prepare.Reason.TheVariants.{Words, FileTooLong, KeysTooLong, Load, FileTooLongOf, LoadOf}
+use Rattle.dpmi_cli.specs.{declared.prepare.Reason.{Reason}, declared.prepare.Reason.TheVariants.{Words, FileTooLong, KeysTooLong, Load}}
+use Rattle.dpmi_cli.specs.declared.prepare.Reason.TheVariants.{FileTooLongOf, LoadOf}
+use Rattle.client_world.specs.declared.outcome.LoadFault.TheVariants as fault
 
 -- how a fault of the load is written
 abbrev pub fault_text : LoadFault → List ℕ

@@ -1,6 +1,5 @@
 -- The files that the words name. Source: own.
-use Rattle.std.specs.Prelude.{ℕ, List, [], ◌∷◌, None, Some}
-use Rattle.std.specs.declared.option.Option.{Option}
+use Rattle.std.specs.{Prelude.{ℕ, List, [], ◌∷◌, None, Some}, declared.option.Option.{Option}}
 use Rattle.dpmi_words.specs.Meaning.{Keys, Pressed, Stored, Meaning, Runs, Soaks, Pairs, meaning}
 
 -- the name of the file with the keystrokes, where they come from one

@@ -2,12 +2,9 @@
 ghost use Rattle.std.specs.Prelude.{◌≡◌, ◌≢◌, ◌≤◌, ◌<◌, ◌⊎◌, map, string_bytes, Some, IfSome};
 ghost use Rattle.client_world.specs.WatchWorld.{no_watches};
 ghost use Rattle.dpmi_words.specs.Meaning.{meaning};
-ghost use Rattle.dpmi_io.specs.Causes.{Rose};
-ghost use Rattle.dpmi_io.specs.Content.{Gains, Number};
-ghost use Rattle.dpmi_cli.specs.Answer.{answer, run_status};
-ghost use Rattle.dpmi_cli.specs.Answer.Verdict.{Refuses, Starts, StartsMade, StartsPair};
-ghost use Rattle.dpmi_cli.specs.Causes.{NamedFailed, IsAbsent, HasVerdict, Answers};
-ghost use Rattle.dpmi_cli.specs.Load.{IsNew, verdict_in};
+ghost use Rattle.dpmi_io.specs.{Causes.{Rose}, Content.{Gains, Number}};
+ghost use Rattle.dpmi_cli.specs.{Answer.{answer, run_status}, Answer.Verdict.{Refuses, Starts, StartsMade, StartsPair}};
+ghost use Rattle.dpmi_cli.specs.{Causes.{NamedFailed, IsAbsent, HasVerdict, Answers}, Load.{IsNew, verdict_in}};
 
 use crate::laws::every_run_keeps_the_laws;
 use crate::pairs::write_turns;

@@ -1,8 +1,6 @@
 // What holds of each run of the command. It is a function with nothing to do: its contract is the law.
-ghost use Rattle.std.specs.Prelude.{ℕ};
-ghost use Rattle.std.specs.declared.option.Option.{Option};
-ghost use Rattle.client_world.specs.Soundness.{IsSound};
-ghost use Rattle.client_world.specs.World.{HostWorld};
+ghost use Rattle.std.specs.{Prelude.{ℕ}, declared.option.Option.{Option}};
+ghost use Rattle.client_world.specs.{Soundness.{IsSound}, World.{HostWorld}};
 ghost use Rattle.host_run.specs.Keys.{HasKeys};
 ghost use Rattle.dpmi_cli.specs.Laws.{RunKeepsTheLaws};
 

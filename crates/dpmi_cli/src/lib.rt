@@ -17,3 +17,6 @@ mod watched_host;
 
 pub use command::{dpmi, dpmi_without_failure};
 pub use laws::every_run_keeps_the_laws;
+pub use prepare::{Reason, start_host};
+pub use report::write_refusal;
+pub use runs::run_to_end;

@@ -3,9 +3,7 @@ ghost use Rattle.std.specs.Prelude.{◌≡◌, OnOk, IsSome};
 ghost use Rattle.client_world.specs.WatchWorld.{no_watches};
 ghost use Rattle.watch_run.specs.Turn.{watched_run};
 ghost use Rattle.dpmi_io.specs.Puts.{Puts};
-ghost use Rattle.dpmi_cli.specs.Answer.Verdict.{StartsPair};
-ghost use Rattle.dpmi_cli.specs.Load.{IsNew};
-ghost use Rattle.dpmi_cli.specs.Pairs.{client_line, client_part, pair_text};
+ghost use Rattle.dpmi_cli.specs.{Answer.Verdict.{StartsPair}, Load.{IsNew}, Pairs.{client_line, client_part, pair_text}};
 
 use crate::watched_host::WatchedHost;
 use dpmi_io::{Line, Sink, SinkFail, add, put_all};

@@ -1,50 +1,15 @@
 // What comes before the run: the words, the files, the memory and the load.
-ghost use Rattle.std.specs.Prelude.{
-  ◌≡◌,
-  ◌≤◌,
-  ◌<◌,
-  ◌⊎◌,
-  [],
-  map,
-  string_bytes,
-  None,
-  Some,
-  length,
-  take,
-  option_map,
-  IfOk,
-  IfErr,
-  OnOk,
-  OnErr,
-  IsErrOf,
-};
+ghost use Rattle.std.specs.Prelude.{◌≡◌, ◌≤◌, ◌<◌, ◌⊎◌, [], map, string_bytes, None, Some, length, take, option_map, IfOk, IfErr, OnOk};
+ghost use Rattle.std.specs.Prelude.{OnErr, IsErrOf};
 ghost use Rattle.client_world.specs.declared.limits.TheConstants.{DEFAULT_TRACE, MAX_FILE, MAX_KEYS, MAX_PAGES, MAX_TRACE};
 ghost use Rattle.dpmi_words.specs.Meaning.{keys_in, pair_in, run_in};
 ghost use Rattle.guest_ram.specs.Bytes.{AreBytes};
 ghost use Rattle.host_run.specs.Start.{blank, host_at_start};
 ghost use Rattle.mz_loader.specs.Refusal.{refusal};
-ghost use Rattle.dpmi_cli.specs.Answer.{first_load, bytes_within, load_verdict, made_verdict, second_load};
-ghost use Rattle.dpmi_cli.specs.Causes.{NamedFailed, IsAbsent, HasVerdict};
-ghost use Rattle.dpmi_cli.specs.Load.{
-  HasFront,
-  HasFile,
-  HasPressed,
-  FailsAt,
-  KeysFail,
-  RunFails,
-  HasKeysVerdict,
-  HasRunVerdict,
-  HasPairVerdict,
-  HasSecondVerdict,
-  HasRanges,
-  HasPairRanges,
-  PairFails,
-  verdict_in,
-  IsReady,
-  IsNew,
-  StaysUnlessFailed,
-};
-ghost use Rattle.dpmi_cli.specs.declared.prepare.Stop.TheVariants.{Memory};
+ghost use Rattle.dpmi_cli.specs.{Answer.{first_load, bytes_within, load_verdict, made_verdict, second_load}, Causes.{NamedFailed}};
+ghost use Rattle.dpmi_cli.specs.{Causes.{IsAbsent, HasVerdict}, Load.{HasFront, HasFile, HasPressed, FailsAt, KeysFail, RunFails}};
+ghost use Rattle.dpmi_cli.specs.Load.{HasKeysVerdict, HasRunVerdict, HasPairVerdict, HasSecondVerdict, HasRanges, HasPairRanges, PairFails};
+ghost use Rattle.dpmi_cli.specs.{Load.{verdict_in, IsReady, IsNew, StaysUnlessFailed}, declared.prepare.Stop.TheVariants.{Memory}};
 
 use client_maker::make;
 use client_world::LoadFault;
@@ -170,8 +135,8 @@ fn read_keys<F: Shelf>(
     }
 }
 
-// A new host, with the client of a file loaded.
-fn start_host(
+/// A new host, with the client of a file loaded, or why it isn't loaded. Fails when out of memory. Source: own.
+pub fn start_host(
     alloc: Global,
     pages: u32,
     keys: &[u8],

@@ -1,8 +1,7 @@
 // The run of one client.
 ghost use Rattle.std.specs.Prelude.{◌≡◌, ◌≤◌, ◌+◌, None, Some};
 ghost use Rattle.client_world.specs.declared.limits.TheConstants.{MAX_STEPS};
-ghost use Rattle.dpmi_cli.specs.Load.{CanTick};
-ghost use Rattle.dpmi_cli.specs.Runs.{host_at_end};
+ghost use Rattle.dpmi_cli.specs.{Load.{CanTick}, Runs.{host_at_end}};
 
 use client_world::Exit;
 use host_run::Host;

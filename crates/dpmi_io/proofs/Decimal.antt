@@ -1,7 +1,7 @@
 -- Numbers in digits.
 use Rattle.std.proofs.Common.{arith, ◌≡◌, ◌≤◌, ◌<◌, ◌+◌, ◌/◌, ◌%◌, ◌^◌, ℕ, length, ◌++◌, ◌∷◌, [], ap, ◌∙◌, length-append, sym}
-use Rattle.std.specs.Fmt.{decimal}
 use Rattle.std.proofs.lemmas.Fmt.{decimal_step, decimal_digit, length-decimal-le}
+use Rattle.std.specs.Fmt.{decimal}
 
 pub decimal_short : (n : ℕ) → n < 2 ^ 32 → length (decimal n) ≤ 10
 decimal_short n lt = length-decimal-le 10 n (omega arith) (omega arith) (omega arith)

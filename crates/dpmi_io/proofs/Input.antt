@@ -1,11 +1,8 @@
 -- What several reads, one after another, take from a file.
 use Rattle.std.proofs.Common.{arith, ◌≡◌, ◌≤◌, ◌+◌, ◌-◌, ℕ, List, ◌++◌, length, take, drop, sym, ◌∙◌, ap, append_assoc, subst}
-use Rattle.std.specs.Prelude.{None, Some}
-use Rattle.std.specs.declared.option.Option.{Option}
-use Rattle.std.specs.Io.KnownBytes.{Consumes}
-use Rattle.std.proofs.lemmas.Grind.{common_steps}
-use Rattle.std.proofs.lemmas.List.{take-append-le, take-append-drop, length-take-le}
+use Rattle.std.proofs.{lemmas.Grind.{common_steps}, lemmas.List.{take-append-le, take-append-drop, length-take-le}}
 use Rattle.std.proofs.Math.Seq.{take-append-add}
+use Rattle.std.specs.{Prelude.{None, Some}, declared.option.Option.{Option}, Io.KnownBytes.{Consumes}}
 use borrow.Rule.Slice.PartMut.{put_mid, post_of}
 use Rattle.dpmi_io.specs.Content.{Gives}
 

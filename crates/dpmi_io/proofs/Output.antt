@@ -1,11 +1,8 @@
 -- What several puts, one after another, add to a sink.
 use Rattle.std.proofs.Common.{arith, ◌≡◌, ◌+◌, ◌-◌, ℕ, List, ◌++◌, length, take, drop, min, max, [], sym, ◌∙◌, ap, append_assoc, append-nil}
-use Rattle.std.proofs.Common.{subst, length-append, refl}
-use Rattle.std.proofs.lemmas.Grind.{common_steps}
-use Rattle.std.proofs.lemmas.List.{take-append-le, take-append-drop}
+use Rattle.std.proofs.{Common.{subst, length-append, refl}, lemmas.Grind.{common_steps}, lemmas.List.{take-append-le, take-append-drop}}
 use Rattle.std.proofs.Math.Seq.{take-append-add, take-add}
-use Rattle.dpmi_io.specs.Causes.{greatest}
-use Rattle.dpmi_io.specs.Content.{Shown, Bytes, Number, Nothing, gained, Gains, GainsPart}
+use Rattle.dpmi_io.specs.{Causes.{greatest}, Content.{Shown, Bytes, Number, Nothing, gained, Gains, GainsPart}}
 
 -- a sum that stays at its end, in two parts
 number-append : (n x y : ℕ) →

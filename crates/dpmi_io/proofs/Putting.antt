@@ -1,10 +1,7 @@
 -- Texts put one after another.
 use Rattle.std.proofs.Common.{◌≡◌, ◌∙◌, ℕ, List, ◌++◌, subst}
-use Rattle.std.specs.Prelude.{Result, Ok, Err}
-use Rattle.std.specs.Result.{IsErr}
-use Rattle.dpmi_io.specs.Causes.{Rose}
-use Rattle.dpmi_io.specs.Content.{Shown, Gains, GainsPart}
-use Rattle.dpmi_io.specs.Puts.{Puts}
+use Rattle.std.specs.{Prelude.{Result, Ok, Err}, Result.{IsErr}}
+use Rattle.dpmi_io.specs.{Causes.{Rose}, Content.{Shown, Gains, GainsPart}, Puts.{Puts}}
 use Rattle.dpmi_io.proofs.Output.{gains_then, part_then, part_longer}
 
 -- a text that was put is any text that equals it

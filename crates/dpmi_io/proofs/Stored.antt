@@ -1,17 +1,10 @@
 -- What a shelf in memory finds in the files that it stores.
 use Rattle.std.proofs.Common.{◌≡◌, ℕ, List, [], ◌∷◌, Bool, true, false, cond, refl, sym, ◌∙◌, ap, map, string_bytes}
-use Rattle.std.specs.Prelude.{String, Vec, Some}
-use Rattle.std.specs.Option.{option_map}
-use Rattle.std.specs.declared.option.Option.{Option}
-use Rattle.std.specs.BTreeMap.{BTreeMap, is_at, get_by_text, UpdatesBy}
-use Rattle.std.specs.Cmp.{eq_by_cmp_equiv}
-use Rattle.std.specs.Cmp.Lexicographic.{slice_cmp, nat_list_cmp_total}
-use Rattle.std.specs.FinMap.{get, insert, find, get-from_entries, get-insert, same_map, nat_cmp-IsAntisymmetric, slice_cmp-IsAntisymmetric}
-use Rattle.std.specs.Map.{lookup}
-use Rattle.std.specs.Ordering.{nat_cmp, eq_by_cmp, is_eq}
-use Rattle.std.specs.Str.{bytes_eq}
-use Rattle.std.specs.String.{string_cmp}
 use Rattle.std.proofs.lemmas.Map.Text.{btree_map_updates_text, is_eq-slice_cmp}
+use Rattle.std.specs.{Prelude.{String, Vec, Some}, Option.{option_map}, declared.option.Option.{Option}, BTreeMap.{BTreeMap, is_at}}
+use Rattle.std.specs.{BTreeMap.{get_by_text, UpdatesBy}, Cmp.{eq_by_cmp_equiv}, Cmp.Lexicographic.{slice_cmp, nat_list_cmp_total}}
+use Rattle.std.specs.FinMap.{get, insert, find, get-from_entries, get-insert, same_map, nat_cmp-IsAntisymmetric, slice_cmp-IsAntisymmetric}
+use Rattle.std.specs.{Map.{lookup}, Ordering.{nat_cmp, eq_by_cmp, is_eq}, Str.{bytes_eq}, String.{string_cmp}}
 use Rattle.dpmi_io.specs.StoredFiles.{file_entry, files_of}
 
 -- the bytes of a file that was found

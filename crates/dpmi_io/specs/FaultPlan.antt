@@ -1,6 +1,5 @@
 -- Which calls of a shelf or a sink in memory are to fail. Source: own.
-use Rattle.std.specs.Prelude.{◌+◌, ◌++◌, ◌∷◌, [], ℕ, List, min, Bool, nat_eq}
-use Rattle.std.specs.List.{list_any}
+use Rattle.std.specs.{Prelude.{◌+◌, ◌++◌, ◌∷◌, [], ℕ, List, min, Bool, nat_eq}, List.{list_any}}
 use Rattle.dpmi_io.specs.Causes.{greatest}
 
 -- the numbers of the calls that are to fail, how many calls there were, and how many of them failed

@@ -1,14 +1,10 @@
 -- What a shelf in memory holds, and which of its calls fail. Source: own.
 use Rattle.std.specs.Prelude.{◌+◌, ℕ, List, [], drop, length, min, None, Some, Ok, Err, Result, unwrap_or, if◌then◌else◌}
-use Rattle.std.specs.Cmp.Lexicographic.{slice_cmp}
-use Rattle.std.specs.Coded.{Coded, coded_ℕ, coded_list}
-use Rattle.std.specs.FinMap as map
-use Rattle.std.specs.Option.{option_map, option_and_then}
-use Rattle.std.specs.Ordering.{nat_cmp}
-use Rattle.std.specs.declared.option.Option.{Option}
-use Rattle.dpmi_io.specs.FaultPlan.{Plan, new_plan, is_listed, after_success, after_fault}
-use Rattle.dpmi_io.specs.declared.outside.ShelfFail.{ShelfFail}
+use Rattle.std.specs.{Cmp.Lexicographic.{slice_cmp}, Coded.{Coded, coded_ℕ, coded_list}, Option.{option_map, option_and_then}}
+use Rattle.std.specs.{Ordering.{nat_cmp}, declared.option.Option.{Option}}
+use Rattle.dpmi_io.specs.{FaultPlan.{Plan, new_plan, is_listed, after_success, after_fault}, declared.outside.ShelfFail.{ShelfFail}}
 use Rattle.dpmi_io.specs.declared.outside.ShelfFail.TheVariants.{Missing, Failed}
+use Rattle.std.specs.FinMap as map
 
 -- files by name, in the order of their names
 abbrev pub FileMap : Type 0

@@ -1,7 +1,6 @@
 -- What a call puts into an output. Source: own.
 use Rattle.std.specs.Prelude.{ℕ, ◌≡◌, List, Result, OnOk, OnErr}
-use Rattle.dpmi_io.specs.Causes.{Rose}
-use Rattle.dpmi_io.specs.Content.{Shown, Gains, GainsPart}
+use Rattle.dpmi_io.specs.{Causes.{Rose}, Content.{Shown, Gains, GainsPart}}
 
 -- the call put this text, and the count of faults stayed; or it failed, put some first bytes of the text, and the count rose. What the
 -- output shows of what it took and its count are functions of the output, which is given before and after the call

@@ -1,8 +1,6 @@
 -- How a shelf in memory keeps its files. Source: own.
-use Rattle.std.specs.Prelude.{ℕ, List, String, Vec, map, string_bytes}
-use Rattle.std.specs.FinMap.{from_entries}
-use Rattle.dpmi_io.specs.MemShelf.{FileMap, OpenAt}
-use Rattle.dpmi_io.specs.declared.open_file.OpenFile.{OpenFile}
+use Rattle.std.specs.{Prelude.{ℕ, List, String, Vec, map, string_bytes}, FinMap.{from_entries}}
+use Rattle.dpmi_io.specs.{MemShelf.{FileMap, OpenAt}, declared.open_file.OpenFile.{OpenFile}}
 
 -- a stored file: the bytes of its name, and its bytes
 abbrev pub file_entry : {Y Z : Type 0} → String Y × Vec ℕ Z → List ℕ × List ℕ

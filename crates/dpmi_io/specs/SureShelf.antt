@@ -1,9 +1,6 @@
 -- A shelf and a sink in memory that never fail. Source: own.
-use Rattle.std.specs.Prelude.{ℕ, List, ◌+◌, drop, min, Some}
-use Rattle.std.specs.Option.{option_map}
-use Rattle.std.specs.declared.option.Option.{Option}
-use Rattle.dpmi_io.specs.Causes.{greatest}
-use Rattle.dpmi_io.specs.MemShelf.{OpenAt, read_on}
+use Rattle.std.specs.{Prelude.{ℕ, List, ◌+◌, drop, min, Some}, Option.{option_map}, declared.option.Option.{Option}}
+use Rattle.dpmi_io.specs.{Causes.{greatest}, MemShelf.{OpenAt, read_on}}
 
 -- the bytes of the one file, which has every name, and the file that is open
 pub record SureShelfState : Type 0 where

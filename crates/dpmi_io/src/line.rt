@@ -1,6 +1,5 @@
 // A line of text as it is made, from literals and decimal numbers.
-ghost use Rattle.std.specs.Prelude.{◌≡◌, ◌≤◌, ◌+◌, ◌++◌, length};
-ghost use Rattle.std.specs.Fmt.{decimal};
+ghost use Rattle.std.specs.{Prelude.{◌≡◌, ◌≤◌, ◌+◌, ◌++◌, length}, Fmt.{decimal}};
 
 use arrayvec::ArrayVec;
 

@@ -1,9 +1,8 @@
 // A shelf in memory, whose calls fail by a list.
-ghost use Rattle.std.specs.Prelude.{◌≡◌, ◌≤◌, ◌<◌, ◌↔◌, length, take, drop, string_bytes, IfOk, OnOk, OnErr};
-ghost use Rattle.std.specs.Prelude.{IsErr, IsErrOf, IsSome, IsTrue};
-ghost use Rattle.std.specs.FinMap as map;
-ghost use Rattle.std.specs.Option.{option_copied};
+ghost use Rattle.std.specs.Prelude.{◌≡◌, ◌≤◌, ◌<◌, ◌↔◌, length, take, drop, string_bytes, IfOk, OnOk, OnErr, IsErr, IsErrOf, IsSome};
+ghost use Rattle.std.specs.{Prelude.{IsTrue}, Option.{option_copied}};
 ghost use Rattle.dpmi_io.specs.StoredFiles.{files_of};
+ghost use Rattle.std.specs.FinMap as map;
 
 use crate::open_file::{OpenFile, give};
 use crate::plan::FaultPlan;

@@ -1,8 +1,7 @@
 // Where files come from and where text goes, and when a call of them may fail.
 ghost use Rattle.std.specs.Prelude.{◌≡◌, ◌≤◌, ◌<◌, List, ℕ, Some, None, length, take, string_bytes, IfOk, OnOk, OnErr, IsErrOf, IsSome};
 ghost use Rattle.std.specs.declared.option.Option.{Option};
-ghost use Rattle.dpmi_io.specs.Causes.{Rose};
-ghost use Rattle.dpmi_io.specs.Content.{Files, Starts, Lacks, Gives, Shown, Gains, GainsPart};
+ghost use Rattle.dpmi_io.specs.{Causes.{Rose}, Content.{Files, Starts, Lacks, Gives, Shown, Gains, GainsPart}};
 
 use thiserror::Error;
 

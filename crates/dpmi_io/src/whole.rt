@@ -1,7 +1,6 @@
 // Whole texts put, and files read to their end or to the end of a buffer.
 ghost use Rattle.std.specs.Prelude.{◌≡◌, ◌≤◌, length, take, IfOk, OnOk, OnErr, IfSome, IsErrOf, IsSome};
-ghost use Rattle.dpmi_io.specs.Causes.{Rose};
-ghost use Rattle.dpmi_io.specs.Puts.{Puts};
+ghost use Rattle.dpmi_io.specs.{Causes.{Rose}, Puts.{Puts}};
 
 use crate::{Shelf, ShelfFail, Sink, SinkFail};
 

@@ -1,14 +1,11 @@
 -- The bytes and the locks of a memory block.
 use Rattle.std.proofs.Common.{arith, ◌≡◌, ◌≤◌, ◌<◌, ◌+◌, ◌-◌, ◌*◌, ◌⊎◌, inl, inr, ℕ, zero, suc, true, false, List, [], ◌∷◌, length}
-use Rattle.std.proofs.Common.{slice_index_or, refl, ◌∙◌, ap, add-one, Option, None, Some}
+use Rattle.std.proofs.{Common.{slice_index_or, refl, ◌∙◌, ap, add-one, Option, None, Some}, lemmas.Bool.{and_from, and_left, and_right}}
+use Rattle.std.proofs.lemmas.Bool.{le-leb, le-ltb, lt-leb, lt-ltb}
 use Rattle.std.specs.Prelude.{is_some, slice_index}
-use Rattle.std.proofs.lemmas.Bool.{and_from, and_left, and_right, le-leb, le-ltb, lt-leb, lt-ltb}
-use Rattle.client_world.specs.declared.blocks.BlockRow.{BlockRow}
-use Rattle.client_world.specs.declared.host_frames.TheConstants.{PAGE_SIZE}
-use Rattle.client_world.specs.declared.memory_map.TheConstants.{BLOCK_REGION_END}
-use Rattle.client_world.specs.declared.place.Place.TheVariants.{Block}
-use Rattle.client_world.specs.Access.{HasByte, bytes_of_block, block_place, covers, place_in}
-use Rattle.client_world.specs.Soundness.{SoundBlocks, IsBlock}
+use Rattle.client_world.specs.{declared.blocks.BlockRow.{BlockRow}, declared.host_frames.TheConstants.{PAGE_SIZE}}
+use Rattle.client_world.specs.{declared.memory_map.TheConstants.{BLOCK_REGION_END}, declared.place.Place.TheVariants.{Block}}
+use Rattle.client_world.specs.{Access.{HasByte, bytes_of_block, block_place, covers, place_in}, Soundness.{SoundBlocks, IsBlock}}
 use Rattle.client_world.specs.World.{MemoryBlock, block_at}
 use Rattle.client_world.proofs.PlaceLaws.{place-block}
 use Rattle.block_memory.specs.BlockSizes.{lock_in, locks_of_block, row_seen}

@@ -1,10 +1,8 @@
 -- One line more is counted.
 use Rattle.std.proofs.Common.{arith, ◌≡◌, ◌<◌, ◌+◌, ℕ, Bool, cond, true, false, List, length, take, get_or, refl}
+use Rattle.std.proofs.{lemmas.List.Sums.{count_by_more_yes, count_by_more_no}, lemmas.Option.{slice_get-get_or}}
 use Rattle.std.specs.Prelude.{IfSome, count_by, slice_get}
-use Rattle.std.proofs.lemmas.List.Sums.{count_by_more_yes, count_by_more_no}
-use Rattle.std.proofs.lemmas.Option.{slice_get-get_or}
-use Rattle.client_world.specs.declared.trace.TraceLine.{TraceLine}
-use Rattle.client_world.specs.declared.trace.TraceLine.TheVariants.{Int20}
+use Rattle.client_world.specs.{declared.trace.TraceLine.{TraceLine}, declared.trace.TraceLine.TheVariants.{Int20}}
 
 pub counted : (f : TraceLine → Bool) (kept : List TraceLine) (i n count : ℕ) → i < length kept →
     IfSome (slice_get kept i) (λ event. n ≡ cond (f event) 1 0) → count ≡ count_by f (take i kept) →

@@ -1,9 +1,8 @@
 -- A list read byte by byte, in pieces.
 use Rattle.std.proofs.Common.{arith, ◌≡◌, ◌≤◌, ◌<◌, ◌+◌, ◌*◌, ℕ, List, ◌++◌, length, take, drop, get_or, sym, ◌∙◌, ap, length-drop}
-use Rattle.std.specs.Prelude.{slice_set}
-use Rattle.std.proofs.lemmas.List.{ext_get_or, get_or-take, get_or-drop, length-take-le, get_or-set_other}
-use Rattle.std.proofs.lemmas.Grind.{get_or-set_at}
+use Rattle.std.proofs.{lemmas.List.{ext_get_or, get_or-take, get_or-drop, length-take-le, get_or-set_other}, lemmas.Grind.{get_or-set_at}}
 use Rattle.std.proofs.Math.Seq.{take-add}
+use Rattle.std.specs.Prelude.{slice_set}
 
 -- one byte more
 pub byte_more : (xs ys : List ℕ) (at i b : ℕ) → i < length xs → ((k : ℕ) → k < i → get_or xs k 0 ≡ get_or ys (at + k) 0) →

@@ -1,12 +1,8 @@
 -- Lines written one after another.
 use Rattle.std.proofs.Common.{arith, ◌≡◌, ◌<◌, ◌+◌, ◌-◌, ℕ, zero, suc, List, ◌++◌, refl, sym, subst, add-one}
-use Rattle.std.specs.Prelude.{Result, Err}
-use Rattle.std.specs.Result.{IsErr}
-use Rattle.dpmi_io.specs.Causes.{Rose}
-use Rattle.dpmi_io.specs.Content.{Shown, Gains, GainsPart}
-use Rattle.dpmi_io.specs.Puts.{Puts}
-use Rattle.dpmi_io.proofs.Output.{gained-none, gains_then, part_then, part_longer}
-use Rattle.dpmi_io.proofs.Putting.{puts_failed}
+use Rattle.std.specs.{Prelude.{Result, Err}, Result.{IsErr}}
+use Rattle.dpmi_io.specs.{Causes.{Rose}, Content.{Shown, Gains, GainsPart}, Puts.{Puts}}
+use Rattle.dpmi_io.proofs.{Output.{gained-none, gains_then, part_then, part_longer}, Putting.{puts_failed}}
 use Rattle.dpmi_report.specs.Rows.{up_to}
 
 up_to_next : (f : ℕ → List ℕ) (n : ℕ) → up_to f (n + 1) ≡ up_to f n ++ f n

@@ -1,6 +1,5 @@
 -- Numbers in hexadecimal digits, in lower case. Source: own.
-use Rattle.std.specs.Prelude.{ℕ, List, [], ◌∷◌, slice_index}
-use Rattle.std.specs.Int.{to_be_bytes, w16, w32}
+use Rattle.std.specs.{Prelude.{ℕ, List, [], ◌∷◌, slice_index}, Int.{to_be_bytes, w16, w32}}
 use Rattle.hex.specs.Hex.{encode_lower, lower_digits}
 
 -- a number below 16, a byte, a word and a doubleword, with one, two, four and eight digits

@@ -1,11 +1,8 @@
 -- How the report writes each exit, and the status of the program after it. Source: own.
-use Rattle.std.specs.Prelude.{ℕ, ◌++◌, List, [], codes}
-use Rattle.std.specs.Fmt.{decimal}
-use Rattle.client_world.specs.declared.outcome.Exit.{Exit}
-use Rattle.client_world.specs.declared.outcome.Exit.TheVariants.{Exited, Fault, Bound, NoKeys, ConsoleFull, Deep, Stray, LostStructure}
-use Rattle.client_world.specs.declared.outcome.Exit.TheVariants.{BadFrame, BadSwitch}
-use Rattle.dpmi_report.specs.declared.exits.TheConstants.{EXITED, ENDED_OTHERWISE}
-use Rattle.dpmi_report.specs.Digits.{hex_byte, hex_doubleword}
+use Rattle.std.specs.{Prelude.{ℕ, ◌++◌, List, [], codes}, Fmt.{decimal}}
+use Rattle.client_world.specs.{declared.outcome.Exit.{Exit}, declared.outcome.Exit.TheVariants.{Exited, Fault, Bound, NoKeys, ConsoleFull}}
+use Rattle.client_world.specs.declared.outcome.Exit.TheVariants.{Deep, Stray, LostStructure, BadFrame, BadSwitch}
+use Rattle.dpmi_report.specs.{declared.exits.TheConstants.{EXITED, ENDED_OTHERWISE}, Digits.{hex_byte, hex_doubleword}}
 
 -- the word of an exit, and the status after it
 pub record ExitRow : Type 0 where

@@ -1,24 +1,16 @@
 -- The lines of the report. Source: own.
 use Rattle.std.specs.Prelude.{ℕ, ◌+◌, ◌/◌, ◌++◌, List, [], ◌∷◌, Bool, length, codes, Some, None, count_by, nat_lt}
-use Rattle.std.specs.declared.option.Option.{Option}
-use Rattle.std.specs.Fmt.{decimal}
+use Rattle.std.specs.{declared.option.Option.{Option}, Fmt.{decimal}}
 use Rattle.hex.specs.Hex.{encode_lower}
 use Rattle.sha2.specs.Sha256.{sha256}
-use Rattle.client_world.specs.declared.host_frames.TheConstants.{PAGE_SIZE}
-use Rattle.client_world.specs.declared.descriptors.Desc.{Desc}
-use Rattle.client_world.specs.declared.descriptors.Origin.{Origin}
-use Rattle.client_world.specs.declared.descriptors.Origin.TheVariants.{Own, Low, Entry, Psp, Segment, Dos, Host}
-use Rattle.client_world.specs.declared.outcome.Exit.{Exit}
-use Rattle.client_world.specs.declared.registers.Mode.{Mode}
-use Rattle.client_world.specs.declared.registers.Mode.TheVariants.{Real, Protected}
-use Rattle.client_world.specs.declared.registers.Regs.{Regs}
-use Rattle.client_world.specs.Descriptor.{access_byte, flags_byte, byte_limit}
-use Rattle.client_world.specs.Registers.{flags_image}
-use Rattle.client_world.specs.Selector.{Row, row_at_index, selector_of}
-use Rattle.client_world.specs.World.{MemoryBlock, block_at}
+use Rattle.client_world.specs.{declared.host_frames.TheConstants.{PAGE_SIZE}, declared.descriptors.Desc.{Desc}}
+use Rattle.client_world.specs.{declared.descriptors.Origin.{Origin}, declared.descriptors.Origin.TheVariants.{Own, Low, Entry, Psp}}
+use Rattle.client_world.specs.{declared.descriptors.Origin.TheVariants.{Segment, Dos, Host}, declared.outcome.Exit.{Exit}}
+use Rattle.client_world.specs.{declared.registers.Mode.{Mode}, declared.registers.Mode.TheVariants.{Real, Protected}}
+use Rattle.client_world.specs.{declared.registers.Regs.{Regs}, Descriptor.{access_byte, flags_byte, byte_limit}, Registers.{flags_image}}
+use Rattle.client_world.specs.{Selector.{Row, row_at_index, selector_of}, World.{MemoryBlock, block_at}}
 use Rattle.dpmi_io.specs.LineEnd.{line_end}
-use Rattle.dpmi_report.specs.Digits.{hex_digit, hex_byte, hex_word, hex_doubleword}
-use Rattle.dpmi_report.specs.Exits.{exit_text}
+use Rattle.dpmi_report.specs.{Digits.{hex_digit, hex_byte, hex_word, hex_doubleword}, Exits.{exit_text}}
 
 -- the lines of how a run ended, and after how many turns
 abbrev pub exit_part : Exit → ℕ → List ℕ

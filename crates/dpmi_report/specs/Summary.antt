@@ -1,14 +1,10 @@
 -- The text of the run of a made client. Source: own.
-use Rattle.std.specs.Prelude.{ℕ, ◌++◌, List, [], Bool, true, false, length, codes, Some, None, count_by}
-use Rattle.std.specs.Fmt.{decimal}
+use Rattle.std.specs.{Prelude.{ℕ, ◌++◌, List, [], Bool, true, false, length, codes, Some, None, count_by}, Fmt.{decimal}}
 use Rattle.hex.specs.Hex.{encode_lower}
 use Rattle.sha2.specs.Sha256.{sha256}
-use Rattle.client_world.specs.declared.outcome.Exit.{Exit}
-use Rattle.client_world.specs.Services.{is_set}
-use Rattle.client_world.specs.declared.trace.TraceLine.{TraceLine}
+use Rattle.client_world.specs.{declared.outcome.Exit.{Exit}, Services.{is_set}, declared.trace.TraceLine.{TraceLine}}
 use Rattle.client_world.specs.declared.trace.TraceLine.TheVariants.{Int31, Int21, Int2f, Int20, Entry, EntryRefused, ToProtected, ToReal}
-use Rattle.client_world.specs.declared.trace.TraceLine.TheVariants.{Enter, Leave}
-use Rattle.client_world.specs.World.{HostWorld}
+use Rattle.client_world.specs.{declared.trace.TraceLine.TheVariants.{Enter, Leave}, World.{HostWorld}}
 use Rattle.dpmi_io.specs.LineEnd.{line_end}
 use Rattle.dpmi_report.specs.Lines.{exit_part, dos_line}
 

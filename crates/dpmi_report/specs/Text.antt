@@ -1,16 +1,10 @@
 -- The text of a run that has ended. Source: own.
-use Rattle.std.specs.Prelude.{ℕ, ◌++◌, List, [], Bool, length, codes, Some, None, count_by, is_some}
-use Rattle.std.specs.Fmt.{decimal}
-use Rattle.client_world.specs.declared.host_frames.TheConstants.{DESCRIPTORS}
-use Rattle.client_world.specs.declared.limits.TheConstants.{MAX_BLOCKS}
-use Rattle.client_world.specs.declared.outcome.Exit.{Exit}
-use Rattle.client_world.specs.declared.registers.Mode.{Mode}
-use Rattle.client_world.specs.declared.registers.Regs.{Regs}
-use Rattle.client_world.specs.World.{World, HostWorld, depth}
+use Rattle.std.specs.{Prelude.{ℕ, ◌++◌, List, [], Bool, length, codes, Some, None, count_by, is_some}, Fmt.{decimal}}
+use Rattle.client_world.specs.{declared.host_frames.TheConstants.{DESCRIPTORS}, declared.limits.TheConstants.{MAX_BLOCKS}}
+use Rattle.client_world.specs.{declared.outcome.Exit.{Exit}, declared.registers.Mode.{Mode}, declared.registers.Regs.{Regs}, World.{World}}
+use Rattle.client_world.specs.World.{HostWorld, depth}
 use Rattle.dpmi_io.specs.LineEnd.{line_end}
-use Rattle.dpmi_report.specs.Lines.{exit_part, mode_text, regs_text, desc_row, block_row, dos_line}
-use Rattle.dpmi_report.specs.Rows.{up_to}
-use Rattle.dpmi_report.specs.Trace.{trace_row}
+use Rattle.dpmi_report.specs.{Lines.{exit_part, mode_text, regs_text, desc_row, block_row, dos_line}, Rows.{up_to}, Trace.{trace_row}}
 
 -- the line before the console's bytes: their number
 abbrev pub console_head : ℕ → List ℕ

@@ -1,22 +1,14 @@
 -- The lines of the trace. Source: own.
-use Rattle.std.specs.Prelude.{ℕ, ◌++◌, List, [], Bool, codes, Some, None, slice_get}
-use Rattle.std.specs.declared.option.Option.{Option}
-use Rattle.std.specs.Fmt.{decimal}
-use Rattle.client_world.specs.declared.calls.Call.{Call}
-use Rattle.client_world.specs.declared.calls.Call.TheVariants as call
-use Rattle.client_world.specs.declared.calls.What.{What}
-use Rattle.client_world.specs.declared.calls.What.TheVariants as what
-use Rattle.client_world.specs.declared.registers.Regs.{Regs}
-use Rattle.client_world.specs.declared.registers.Width.{Width}
-use Rattle.client_world.specs.declared.registers.Width.TheVariants.{Sixteen, ThirtyTwo}
-use Rattle.client_world.specs.declared.services.Carry.{Carry}
-use Rattle.client_world.specs.declared.services.Carry.TheVariants.{Clear, Set}
-use Rattle.client_world.specs.declared.trace.TraceLine.{TraceLine}
-use Rattle.client_world.specs.declared.trace.TraceLine.TheVariants.{Int31, Int21, Int2f, Int20, Entry, EntryRefused, ToProtected, ToReal}
-use Rattle.client_world.specs.declared.trace.TraceLine.TheVariants.{Enter, Leave}
-use Rattle.dpmi_report.specs.Digits.{hex_byte, hex_word}
+use Rattle.std.specs.{Prelude.{ℕ, ◌++◌, List, [], Bool, codes, Some, None, slice_get}, declared.option.Option.{Option}, Fmt.{decimal}}
+use Rattle.client_world.specs.{declared.calls.Call.{Call}, declared.calls.What.{What}, declared.registers.Regs.{Regs}}
+use Rattle.client_world.specs.{declared.registers.Width.{Width}, declared.registers.Width.TheVariants.{Sixteen, ThirtyTwo}}
+use Rattle.client_world.specs.{declared.services.Carry.{Carry}, declared.services.Carry.TheVariants.{Clear, Set}}
+use Rattle.client_world.specs.{declared.trace.TraceLine.{TraceLine}, declared.trace.TraceLine.TheVariants.{Int31, Int21, Int2f, Int20}}
+use Rattle.client_world.specs.declared.trace.TraceLine.TheVariants.{Entry, EntryRefused, ToProtected, ToReal, Enter, Leave}
+use Rattle.dpmi_report.specs.{Digits.{hex_byte, hex_word}, Lines.{regs_text}}
 use Rattle.dpmi_io.specs.LineEnd.{line_end}
-use Rattle.dpmi_report.specs.Lines.{regs_text}
+use Rattle.client_world.specs.declared.calls.Call.TheVariants as call
+use Rattle.client_world.specs.declared.calls.What.TheVariants as what
 
 -- what was called
 abbrev pub call_text : Call → List ℕ

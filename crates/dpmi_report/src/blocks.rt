@@ -1,12 +1,9 @@
 // The part of the memory blocks. It takes no memory; where it fails, a first part of its text was put, and the count of faults rose.
 ghost use Rattle.std.specs.Prelude.{◌≡◌, ◌<◌, Some, None, count_by, is_some, nat_lt, slice_index, slice_index_or};
-ghost use Rattle.client_world.specs.declared.limits.TheConstants.{MAX_BLOCKS};
-ghost use Rattle.client_world.specs.World.{block_at};
+ghost use Rattle.client_world.specs.{declared.limits.TheConstants.{MAX_BLOCKS}, World.{block_at}};
 ghost use Rattle.block_memory.specs.BlockSizes.{locks_of_block, row_seen};
 ghost use Rattle.dpmi_io.specs.Puts.{Puts};
-ghost use Rattle.dpmi_report.specs.Lines.{block_text, block_row};
-ghost use Rattle.dpmi_report.specs.Rows.{up_to};
-ghost use Rattle.dpmi_report.specs.Text.{blocks_head, blocks_part};
+ghost use Rattle.dpmi_report.specs.{Lines.{block_text, block_row}, Rows.{up_to}, Text.{blocks_head, blocks_part}};
 
 use crate::digest::block_digest;
 use crate::lines::{block_line, blocks_line};

@@ -1,10 +1,8 @@
 // The digests of the DOS megabyte and of a memory block.
 ghost use Rattle.std.specs.Prelude.{◌≡◌, ◌≤◌, ◌+◌, ◌*◌, length, take, drop};
 ghost use Rattle.sha2.specs.Sha256.{sha256};
-ghost use Rattle.client_world.specs.declared.host_frames.TheConstants.{PAGE_SIZE};
-ghost use Rattle.client_world.specs.declared.memory_map.TheConstants.{BLOCK_REGION_END, DOS_SIZE};
-ghost use Rattle.client_world.specs.Access.{bytes_of_block};
-ghost use Rattle.client_world.specs.World.{block_at};
+ghost use Rattle.client_world.specs.{declared.host_frames.TheConstants.{PAGE_SIZE}, declared.memory_map.TheConstants.{BLOCK_REGION_END}};
+ghost use Rattle.client_world.specs.{declared.memory_map.TheConstants.{DOS_SIZE}, Access.{bytes_of_block}, World.{block_at}};
 
 use client_world::host_frames::PAGE_SIZE;
 use client_world::memory_map::DOS_SIZE;

@@ -1,16 +1,14 @@
 // The lines of the report.
 ghost use Rattle.std.specs.Prelude.{◌≡◌, ◌≤◌, ◌<◌, ◌+◌, ◌/◌, ◌++◌, ◌^◌, length};
-ghost use Rattle.client_world.specs.Descriptor.{access_byte, flags_byte};
-ghost use Rattle.dpmi_report.specs.Digits.{hex_word, hex_doubleword};
-ghost use Rattle.dpmi_report.specs.Lines.{exit_part, mode_text, wide_text, narrow_text, regs_text, origin_text, desc_line, digest_line};
-ghost use Rattle.dpmi_report.specs.Lines.{block_line_with};
-ghost use Rattle.dpmi_report.specs.Text.{console_head, trace_head, end_part, processor_text, descs_head, blocks_head};
-ghost use Rattle.dpmi_report.specs.Summary.{soak_head, services_text, console_digest_text};
+ghost use Rattle.dpmi_report.specs.{Digits.{hex_word, hex_doubleword}, Lines.{exit_part, mode_text, wide_text, narrow_text, regs_text}};
+ghost use Rattle.dpmi_report.specs.{Lines.{origin_text, desc_line, digest_line, block_line_with}, Text.{console_head, trace_head}};
+ghost use Rattle.dpmi_report.specs.{Text.{end_part, processor_text, descs_head, blocks_head}, Summary.{soak_head, services_text}};
+ghost use Rattle.dpmi_report.specs.Summary.{console_digest_text};
 
 use crate::digits::{add_digest, add_hex_byte, add_hex_digit, add_hex_doubleword, add_hex_word};
 use crate::exits::add_exit;
 use client_world::{Desc, Exit, Mode, Origin, Regs};
-use desc_table::pack;
+use desc_table::{access_byte, flags_byte};
 use dpmi_io::{Line, add, add_decimal};
 
 /// The line before the console's bytes. Source: own.
@@ -162,32 +160,19 @@ fn origin_name(origin: Origin) -> &'static [u8]
     }
 }
 
-// The access byte of a descriptor, and the high half of its flags byte.
-#[tactic(auto, unfolding(client_world::specs::Descriptor::packed))]
-fn access_and_flags(d: &Desc) -> (u8, u8)
-    requires { d.now.limit < 2 ^ 20 }
-    ensures access { result.0 ≡ access_byte d.now }
-    ensures flags { result.1 ≡ flags_byte d.now / 16 }
-    ensures small { result.1 < 16 }
-{
-    let bytes = pack(d);
-    (bytes[5], bytes[6] / 16)
-}
-
 /// The line of the descriptor of a selector. Source: own.
 pub fn descriptor_line(selector: u16, d: &Desc, origin: Origin) -> Line
     requires { d.now.limit < 2 ^ 20 }
     ensures { result.items ≡ desc_line selector d.now origin }
 {
-    let (access, flags) = access_and_flags(d);
     let mut line = Line::new();
     add_narrow(&mut line, b"desc ", selector);
     add_wide(&mut line, b" base=", d.base);
     add_wide(&mut line, b" limit=", d.byte_limit());
     add(&mut line, b" access=");
-    add_hex_byte(&mut line, access);
+    add_hex_byte(&mut line, access_byte(d));
     add(&mut line, b" flags=");
-    add_hex_digit(&mut line, flags);
+    add_hex_digit(&mut line, flags_byte(d) / 16);
     add(&mut line, b" origin=");
     add(&mut line, origin_name(origin));
     add(&mut line, b"\n");

@@ -1,13 +1,9 @@
 // The parts of the text. None takes memory; where one fails, a first part of its text was put, and the count of faults rose.
 ghost use Rattle.std.specs.Prelude.{◌≡◌, ◌<◌, length, count_by, is_some};
 ghost use Rattle.client_world.specs.declared.host_frames.TheConstants.{DESCRIPTORS};
-ghost use Rattle.dpmi_io.specs.LineEnd.{line_end};
-ghost use Rattle.dpmi_io.specs.Puts.{Puts};
-ghost use Rattle.dpmi_report.specs.Lines.{exit_part, desc_row, dos_line};
-ghost use Rattle.dpmi_report.specs.Rows.{up_to};
-ghost use Rattle.dpmi_report.specs.Text.{console_head, console_part, trace_head, trace_part, end_part, processor_part};
-ghost use Rattle.dpmi_report.specs.Text.{descs_head, descs_part};
-ghost use Rattle.dpmi_report.specs.Trace.{trace_row};
+ghost use Rattle.dpmi_io.specs.{LineEnd.{line_end}, Puts.{Puts}};
+ghost use Rattle.dpmi_report.specs.{Lines.{exit_part, desc_row, dos_line}, Rows.{up_to}, Text.{console_head, console_part, trace_head}};
+ghost use Rattle.dpmi_report.specs.{Text.{trace_part, end_part, processor_part, descs_head, descs_part}, Trace.{trace_row}};
 
 use crate::digest::dos_digest;
 use crate::lines::{

@@ -1,8 +1,8 @@
 // The text of the run of a made client.
 ghost use Rattle.std.specs.Prelude.{◌≡◌, ◌≤◌, ◌++◌, IfSome, Some, cond, count_by, slice_get};
 ghost use Rattle.dpmi_io.specs.Puts.{Puts};
-ghost use Rattle.dpmi_report.specs.Lines.{exit_part, dos_line};
-ghost use Rattle.dpmi_report.specs.Summary.{soak_head, is_service, is_refusal, services_line, console_line, summary_at};
+ghost use Rattle.dpmi_report.specs.{Lines.{exit_part, dos_line}, Summary.{soak_head, is_service, is_refusal, services_line, console_line}};
+ghost use Rattle.dpmi_report.specs.Summary.{summary_at};
 
 use crate::lines::{console_digest_line, services_line, soak_line};
 use crate::parts::{put_dos, put_exit};

@@ -1,25 +1,15 @@
 -- The command of some words takes the words that break no rule, and assigns the values that they give.
 use Rattle.std.proofs.Common.{◌≡◌, ◌∙◌, ◌||◌, Bool, cond, true, false, ℕ, refl, ap, List, [], ◌∷◌, map, true≢false, sym, inl, inr, subst}
+use Rattle.std.proofs.{lemmas.Slice.Eq.{bytes_eq-Decides}, Math.Path.{fun_ext}}
 use Rattle.std.specs.Prelude.{IfSome, option_and_then, option_map, slice_get, find, is_some, Some, None, ◌⊎◌}
-use Rattle.std.specs.declared.option.Option.{Option}
-use Rattle.std.specs.List.{fold, AllByRecursion}
-use Rattle.std.specs.Str.{bytes_eq}
-use Rattle.std.proofs.lemmas.Slice.Eq.{bytes_eq-Decides}
-use Rattle.std.proofs.Math.Path.{fun_ext}
-use Rattle.clap.specs.Matches.{first_value}
-use Rattle.clap.specs.Simple.{App, built, is_simple, matches_of}
-use Rattle.clap.specs.Takes.{takes, level_passes, walk_passes}
+use Rattle.std.specs.{declared.option.Option.{Option}, List.{fold, AllByRecursion}, Str.{bytes_eq}}
+use Rattle.clap.specs.{Matches.{first_value}, Simple.{App, built, is_simple, matches_of}, Takes.{takes, level_passes, walk_passes}}
 use Rattle.clap.specs.Walk.{Rule, Row, Walk, Held, arg_by_id, arg_by_long, nothing_held, walk, walk_from, with_default, first_of, idle}
-use Rattle.clap.specs.Walk.{has_row, rows_of}
-use Rattle.clap.specs.Walk.{finished as rows_finished}
-use Rattle.clap.proofs.OnLiterals.{clap_on_literals}
-use Rattle.clap.proofs.TakesLemmas.{leaf_takes}
-use Rattle.clap.specs.declared.parser.matches.Found.{Found}
-use Rattle.clap.proofs.WalkLemmas.{first_value-rows}
-use Rattle.dpmi_words.specs.Options.{pair_options, run_options, soak_options}
-use Rattle.dpmi_words.specs.Reading.{Text, Reading, nothing_read, is_option_name, one_operand, pair_operands, reads, finished, finished_by}
-use Rattle.dpmi_words.specs.Reading.{given_by, value_given}
-use Rattle.dpmi_words.specs.Command.{pair_app, run_app, soak_app, Assigns, TakesItsWords}
+use Rattle.clap.specs.{Walk.{has_row, rows_of, finished as rows_finished}, declared.parser.matches.Found.{Found}}
+use Rattle.clap.proofs.{OnLiterals.{clap_on_literals}, TakesLemmas.{leaf_takes}, WalkLemmas.{first_value-rows}}
+use Rattle.dpmi_words.specs.{Options.{pair_options, run_options, soak_options}, Reading.{Text, Reading, nothing_read, is_option_name}}
+use Rattle.dpmi_words.specs.{Reading.{one_operand, pair_operands, reads, finished, finished_by, given_by, value_given}, Command.{pair_app}}
+use Rattle.dpmi_words.specs.Command.{run_app, soak_app, Assigns, TakesItsWords}
 use Rattle.dpmi_words.proofs.Walks.{Rules, built_option, Operands, Tied, Idle, row, walk_at, all_steps}
 
 -- ---- the command of `run`

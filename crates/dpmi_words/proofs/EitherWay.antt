@@ -1,11 +1,9 @@
 -- An option and its value in one word or in two are read alike.
 use Rattle.std.proofs.Common.{◌≡◌, ◌∙◌, ◌&&◌, not, Bool, cond, true, false, true≢false, refl, ap, List, [], ◌∷◌, ◌++◌}
-use Rattle.std.specs.Prelude.{option_and_then, Some, None}
-use Rattle.std.specs.declared.option.Option.{Option}
+use Rattle.std.specs.{Prelude.{option_and_then, Some, None}, declared.option.Option.{Option}}
 use Rattle.clap.proofs.LexerLemmas.{name_and_value-at, name_and_value-without}
 use Rattle.dpmi_words.specs.Reading.{Text, Reading, reads, step, step_by, option_of, gives, has_given, is_option_name, is_hyphened}
-use Rattle.dpmi_words.specs.Reading.{finished, given_by, nothing_read}
-use Rattle.dpmi_words.specs.OptionWords.{option_word_of, option_with_value, IsName}
+use Rattle.dpmi_words.specs.{Reading.{finished, given_by, nothing_read}, OptionWords.{option_word_of, option_with_value, IsName}}
 
 one_word : (name value : Text) → IsName name → option_of (option_with_value name value) ≡ Some (name, Some value)
 one_word [] value is = absurd (true≢false is.0)

@@ -1,9 +1,7 @@
 -- The words in turn.
 use Rattle.std.proofs.Common.{◌≡◌, ◌≤◌, ◌<◌, ◌+◌, ◌∙◌, ℕ, List, [], ◌∷◌, map, drop, length, refl, sym, ap, drop-cons, add-one, suc}
 use Rattle.std.proofs.lemmas.List.{drop_all}
-use Rattle.std.specs.List.{fold, slice_index_or}
-use Rattle.std.specs.declared.option.Option.{Option}
-use Rattle.std.specs.Prelude.{option_and_then, Some}
+use Rattle.std.specs.{List.{fold, slice_index_or}, declared.option.Option.{Option}, Prelude.{option_and_then, Some}}
 use Rattle.dpmi_words.specs.Reading.{Text, Reading, reads, step}
 
 pub reads_none : (names : List Text) (r : Reading) → reads names [] r ≡ Some r

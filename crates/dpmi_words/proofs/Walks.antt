@@ -1,24 +1,15 @@
 -- A command of clap with these options and operands takes each word as `step` does.
 use Rattle.std.proofs.Common.{◌≡◌, ◌∙◌, ◌+◌, ◌&&◌, ◌||◌, not, ℕ, Bool, cond, true, false, refl, sym, ap, List, [], ◌∷◌, ◌++◌, map}
-use Rattle.std.proofs.Common.{true≢false, subst}
-use Rattle.std.specs.Prelude.{option_and_then, Some, None, min, ⊤}
-use Rattle.std.specs.declared.option.Option.{Option}
-use Rattle.std.specs.List.{list_any, fold}
-use Rattle.std.specs.Str.{bytes_eq}
-use Rattle.std.proofs.lemmas.Slice.Eq.{bytes_eq-Decides}
-use Rattle.std.proofs.lemmas.List.{append-nil, map-append}
-use Rattle.clap.specs.Lexer.{long_of, short_of, usize_max}
-use Rattle.clap.specs.Values.{reading_of}
-use Rattle.clap.specs.declared.builder.value_parser.ValueParser.TheVariants as vp
-use Rattle.clap.specs.declared.parser.matches.ValueSource.TheVariants.{CommandLine}
-use Rattle.clap.specs.Simple.{new_rule, filled, with_index}
+use Rattle.std.proofs.{Common.{true≢false, subst}, lemmas.Slice.Eq.{bytes_eq-Decides}, lemmas.List.{append-nil, map-append}}
+use Rattle.std.proofs.Math.Bool.{and-false}
+use Rattle.std.specs.{Prelude.{option_and_then, Some, None, min, ⊤}, declared.option.Option.{Option}, List.{list_any, fold}, Str.{bytes_eq}}
+use Rattle.clap.specs.{Lexer.{long_of, short_of, usize_max}, Values.{reading_of}}
+use Rattle.clap.specs.{declared.parser.matches.ValueSource.TheVariants.{CommandLine}, Simple.{new_rule, filled, with_index, Shape}}
 use Rattle.clap.specs.Walk.{Rule, Row, Held, Walk, Text, idle, option, arg_by_long, arg_by_id, arg_by_index, settled, settled_rows, reacted}
-use Rattle.clap.specs.Walk.{used, at_row, more_values, walked, is_pending}
-use Rattle.clap.specs.Takes.{settle_passes, turn_passes, walk_passes}
-use Rattle.clap.specs.Simple.{Shape}
-use Rattle.clap.specs.Walk.{Waiting}
+use Rattle.clap.specs.{Walk.{used, at_row, more_values, walked, is_pending, Waiting}, Takes.{settle_passes, turn_passes, walk_passes}}
 use Rattle.dpmi_words.specs.Reading.{Reading, option_of, operand_word, option_word, with_value, step_by, has_given, is_hyphened}
 use Rattle.dpmi_words.specs.Reading.{is_option_name, is_blank, gives, step, reads}
+use Rattle.clap.specs.declared.builder.value_parser.ValueParser.TheVariants as vp
 
 -- ---- the rules
 
@@ -70,10 +61,6 @@ has_row_given n [] = refl
 has_row_given n (p ∷ ps) = ap (λ b. bytes_eq p.0 n || b) (has_row_given n ps)
 
 -- ---- one word
-
-and_false : (b : Bool) → (b && false) ≡ false
-and_false true = refl
-and_false false = refl
 
 not_true : (b : Bool) → (b ≡ true → ⊥) → b ≡ false
 not_true true h = absurd (h refl)
@@ -186,7 +173,7 @@ operand_read c given h k n word e rule is =
       plain_long word e,
       plain_short word e,
       rule,
-      and_false (is_pending (built_operand k n) h.pending),
+      and-false (is_pending (built_operand k n) h.pending),
       is.rows,
       is.skip,
     ) refl
@@ -226,7 +213,7 @@ operand_passes s given h k n word e rule again is =
       plain_short word e,
       rule,
       again,
-      and_false (is_pending (built_operand k n) h.pending),
+      and-false (is_pending (built_operand k n) h.pending),
       is.passes,
     ) refl
 

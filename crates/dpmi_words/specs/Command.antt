@@ -1,13 +1,9 @@
 -- The commands of `clap` that assign the words, and what they assign. Source: own.
-use Rattle.std.specs.Prelude.{◌≡◌, true, List, [], codes, Some}
-use Rattle.std.specs.List.{fold}
-use Rattle.clap.specs.Walk.{Rule, rows_of}
-use Rattle.clap.specs.Matches.{first_value}
-use Rattle.clap.specs.declared.parser.matches.Found.{Found}
-use Rattle.clap.specs.Simple.{App, is_simple, matches_of, new_rule, new_shape, with_rule}
-use Rattle.clap.specs.Takes.{takes}
-use Rattle.dpmi_words.specs.Options.{pair_options, run_options, soak_options}
-use Rattle.dpmi_words.specs.Reading.{Text, given_by, one_operand, pair_operands, value_given}
+use Rattle.std.specs.{Prelude.{◌≡◌, true, List, [], codes, Some}, List.{fold}}
+use Rattle.clap.specs.{Walk.{Rule, rows_of}, Matches.{first_value}, declared.parser.matches.Found.{Found}, Simple.{App, is_simple}}
+use Rattle.clap.specs.{Simple.{matches_of, new_rule, new_shape, with_rule}, Takes.{takes}}
+use Rattle.dpmi_words.specs.{Options.{pair_options, run_options, soak_options}, Reading.{Text, given_by, one_operand, pair_operands}}
+use Rattle.dpmi_words.specs.Reading.{value_given}
 
 -- an option with a value
 abbrev pub option_rule : Text → Rule

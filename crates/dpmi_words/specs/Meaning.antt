@@ -1,19 +1,14 @@
 -- What the words after the program's name mean. Source: own.
 use Rattle.std.specs.Prelude.{ℕ, ◌-◌, ◌^◌, List, [], ◌∷◌, codes, Some, None, if◌then◌else◌, option_map, option_and_then, Result, Ok, Err}
-use Rattle.std.specs.declared.option.Option.{Option}
-use Rattle.std.specs.Str.{bytes_eq}
+use Rattle.std.specs.{declared.option.Option.{Option}, Str.{bytes_eq}}
 use Rattle.hex.specs.Hex.{decode_of}
 use Rattle.dpmi_words.specs.Reading.{Text, operand_name, first_name, second_name, given_by, one_operand, pair_operands, value_given}
+use Rattle.dpmi_words.specs.{Options.{OptionRow, pair_options, run_options, soak_options}, Numbers.{number_if_given, number_in_text}}
+use Rattle.dpmi_words.specs.{Numbers.{number_or}, declared.meaning.KeySource.{KeySource}, declared.meaning.Pair.{Pair}}
+use Rattle.dpmi_words.specs.{declared.meaning.Run.{Run}, declared.meaning.Words.{Words}, declared.options.ValueKind.{ValueKind}}
 use Rattle.dpmi_words.specs.Options as option
-use Rattle.dpmi_words.specs.Options.{OptionRow, pair_options, run_options, soak_options}
-use Rattle.dpmi_words.specs.Numbers.{number_if_given, number_in_text, number_or}
-use Rattle.dpmi_words.specs.declared.meaning.KeySource.{KeySource}
 use Rattle.dpmi_words.specs.declared.meaning.KeySource.TheVariants as source
-use Rattle.dpmi_words.specs.declared.meaning.Pair.{Pair}
-use Rattle.dpmi_words.specs.declared.meaning.Run.{Run}
-use Rattle.dpmi_words.specs.declared.meaning.Words.{Words}
 use Rattle.dpmi_words.specs.declared.meaning.Words.TheVariants as words
-use Rattle.dpmi_words.specs.declared.options.ValueKind.{ValueKind}
 use Rattle.dpmi_words.specs.declared.options.ValueKind.TheVariants as kind
 
 -- where a run's keystrokes come from: these bytes, or the file of this name

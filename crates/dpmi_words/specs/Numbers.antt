@@ -1,8 +1,6 @@
 -- Numbers in decimal digits. Source: own.
 use Rattle.std.specs.Prelude.{ℕ, Bool, ◌&&◌, nat_le, nat_lt, length, Some, None, if◌then◌else◌, option_map}
-use Rattle.std.specs.declared.option.Option.{Option}
-use Rattle.std.specs.List.{list_all}
-use Rattle.std.specs.Str.Parse.{digits_value}
+use Rattle.std.specs.{declared.option.Option.{Option}, List.{list_all}, Str.Parse.{digits_value}}
 use Rattle.dpmi_words.specs.Reading.{Text}
 
 -- the byte is a decimal digit

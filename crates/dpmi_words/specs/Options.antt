@@ -2,9 +2,7 @@
 use Rattle.std.specs.Prelude.{List, [], ◌∷◌, codes, map}
 use Rattle.client_world.specs.declared.limits.TheConstants.{MAX_STEPS, DEFAULT_BOUND, MAX_PAGES, MAX_PAIR_PAGES, DEFAULT_PAGES, MAX_TRACE}
 use Rattle.client_world.specs.declared.limits.TheConstants.{DEFAULT_TRACE, MAX_SLICE, DEFAULT_SLICE, GREATEST_TIMER}
-use Rattle.dpmi_words.specs.Reading.{Text}
-use Rattle.dpmi_words.specs.declared.options.CommandOption.{CommandOption}
-use Rattle.dpmi_words.specs.declared.options.ValueKind.{ValueKind}
+use Rattle.dpmi_words.specs.{Reading.{Text}, declared.options.CommandOption.{CommandOption}, declared.options.ValueKind.{ValueKind}}
 use Rattle.dpmi_words.specs.declared.options.ValueKind.TheVariants.{Hex, Name, Number, OptionalNumber}
 
 -- an option: its name, and what its value is. A number lies between the first two; the third is that of an option that isn't given

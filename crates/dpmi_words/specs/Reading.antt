@@ -1,10 +1,8 @@
 -- What the words after the first one give: each option its value, and the words that are no options, the operands, in their order.
 -- The words are read one by one. Source: own.
 use Rattle.std.specs.Prelude.{◌==◌, ◌&&◌, ◌||◌, not, Bool, true, false, ℕ, List, [], ◌∷◌, ◌++◌, codes, Some, None, if◌then◌else◌}
-use Rattle.std.specs.Prelude.{option_map, option_and_then, find}
-use Rattle.std.specs.declared.option.Option.{Option}
-use Rattle.std.specs.List.{list_any, before_first, after_first}
-use Rattle.std.specs.Str.{bytes_eq}
+use Rattle.std.specs.{Prelude.{option_map, option_and_then, find}, declared.option.Option.{Option}, List.{list_any, before_first}}
+use Rattle.std.specs.{List.{after_first}, Str.{bytes_eq}}
 
 -- a text, as its bytes
 abbrev pub Text : Type 0

@@ -1,9 +1,6 @@
 -- What the check of the words has seen, as a reading. Source: own.
-use Rattle.std.specs.Prelude.{List, map, option_map}
-use Rattle.std.specs.Borrow.{Bor}
-use Rattle.dpmi_words.specs.Reading.{Reading, Text}
-use Rattle.dpmi_words.specs.declared.check.Given.{Given}
-use Rattle.dpmi_words.specs.declared.check.Seen.{Seen}
+use Rattle.std.specs.{Prelude.{List, map, option_map}, Borrow.{Bor}}
+use Rattle.dpmi_words.specs.{Reading.{Reading, Text}, declared.check.Given.{Given}, declared.check.Seen.{Seen}}
 use Rattle.dpmi_words.specs.declared.options.CommandOption.{CommandOption}
 
 -- the values with their names

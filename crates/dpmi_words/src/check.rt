@@ -1,21 +1,8 @@
 // The check of the words: what is an option, what is its value, and what is an operand.
-ghost use Rattle.std.specs.Prelude.{◌≡◌, IfOk, map, option_map, Some, None, is_some, cond};
-ghost use Rattle.std.specs.String.{string_bytes};
-ghost use Rattle.dpmi_words.specs.Reading.{
-  after_hyphen,
-  name_and_value,
-  option_of,
-  has_given,
-  gives,
-  is_hyphened,
-  is_option_name,
-  operand_word,
-  option_word,
-  step,
-  finished,
-  given_by,
-};
-ghost use Rattle.dpmi_words.specs.Seen.{names_of, pairs, reading_of, texts};
+ghost use Rattle.std.specs.{Prelude.{◌≡◌, IfOk, map, option_map, Some, None, is_some, cond}, String.{string_bytes}};
+ghost use Rattle.dpmi_words.specs.Reading.{after_hyphen, name_and_value, option_of, has_given, gives, is_hyphened, is_option_name};
+ghost use Rattle.dpmi_words.specs.{Reading.{operand_word, option_word, step, finished, given_by}, Seen.{names_of, pairs, reading_of}};
+ghost use Rattle.dpmi_words.specs.Seen.{texts};
 
 use crate::options::CommandOption;
 use std::alloc::{AllocError, Global};

@@ -1,12 +1,7 @@
 // The commands of `clap`, which assign words that passed the check.
-ghost use Rattle.std.specs.Prelude.{◌≡◌, false, IfOk, IfErr, IfSome, map};
-ghost use Rattle.std.specs.String.{string_bytes};
-ghost use Rattle.clap.specs.Simple.{app_of, new_rule, with_rule};
-ghost use Rattle.clap.specs.Walk.{rule_of};
-ghost use Rattle.clap.specs.Values.{kind_of};
-ghost use Rattle.clap.specs.Matches.{found_of};
-ghost use Rattle.dpmi_words.specs.Reading.{given_by};
-ghost use Rattle.dpmi_words.specs.Command.{command_app, quiet_app, option_rule, Assigns, TakesItsWords};
+ghost use Rattle.std.specs.{Prelude.{◌≡◌, false, IfOk, IfErr, IfSome, map}, String.{string_bytes}};
+ghost use Rattle.clap.specs.{Simple.{app_of, new_rule, with_rule}, Walk.{rule_of}, Values.{kind_of}, Matches.{found_of}};
+ghost use Rattle.dpmi_words.specs.{Reading.{given_by}, Command.{command_app, quiet_app, option_rule, Assigns, TakesItsWords}};
 ghost use Rattle.dpmi_words.specs.Seen.{names_of, texts};
 
 use crate::options::CommandOption;

@@ -1,7 +1,6 @@
 // The laws of the words. Each is a function with nothing to do: its contract is the law.
 ghost use Rattle.std.specs.Prelude.{◌≡◌, ◌++◌, ◌∷◌, List, false};
-ghost use Rattle.dpmi_words.specs.Reading.{Text, given_by, is_hyphened};
-ghost use Rattle.dpmi_words.specs.OptionWords.{IsName, option_with_value, option_word_of};
+ghost use Rattle.dpmi_words.specs.{Reading.{Text, given_by, is_hyphened}, OptionWords.{IsName, option_with_value, option_word_of}};
 
 /// `--name=value` and `--name value` give the same wherever they are, unless the value begins with a hyphen.
 #[tactic(auto, using(crate::proofs::EitherWay::either_way))]

@@ -1,25 +1,9 @@
 // What the words after the program's name mean.
-ghost use Rattle.std.specs.Prelude.{◌≡◌, IfOk, map, option_map, Some};
-ghost use Rattle.std.specs.String.{string_bytes};
+ghost use Rattle.std.specs.{Prelude.{◌≡◌, IfOk, map, option_map, Some}, String.{string_bytes}};
 ghost use Rattle.clap.specs.Matches.{found_of, first_value};
-ghost use Rattle.dpmi_words.specs.Meaning.{
-  keys_of,
-  keys_in,
-  number_of_option,
-  optional_number_of_option,
-  run_of_numbers,
-  run_of_values,
-  soak_of_values,
-  pair_of_values,
-  run_in,
-  pair_in,
-  run_meaning,
-  soak_meaning,
-  pair_meaning,
-  meaning,
-  meaning_in,
-};
-ghost use Rattle.dpmi_words.specs.Options.{row_of};
+ghost use Rattle.dpmi_words.specs.Meaning.{keys_of, keys_in, number_of_option, optional_number_of_option, run_of_numbers, run_of_values};
+ghost use Rattle.dpmi_words.specs.Meaning.{soak_of_values, pair_of_values, run_in, pair_in, run_meaning, soak_meaning, pair_meaning};
+ghost use Rattle.dpmi_words.specs.{Meaning.{meaning, meaning_in}, Options.{row_of}};
 
 use crate::check::{ONE_OPERAND, OPERAND, PAIR_OPERANDS, passes};
 use crate::command::assign;

@@ -1,6 +1,5 @@
 // Numbers in decimal digits.
-ghost use Rattle.std.specs.Prelude.{◌≡◌, ◌-◌, ◌^◌, cond, Some, None, option_map};
-ghost use Rattle.std.specs.List.{list_all};
+ghost use Rattle.std.specs.{Prelude.{◌≡◌, ◌-◌, ◌^◌, cond, Some, None, option_map}, List.{list_all}};
 ghost use Rattle.dpmi_words.specs.Numbers.{is_digit, is_between, number_if_given, number_in_text, number_or};
 
 // Whether the bytes are decimal digits.

@@ -1,8 +1,6 @@
 -- Bits: a bit that is clear can be set within a width, and the search for a bit goes on in half of the number.
-use Rattle.std.proofs.Common.{◌≡◌, ◌≢◌, ℕ, suc, ◌+◌, ◌-◌, ◌*◌, ◌/◌, ◌%◌, ◌^◌, ◌<◌, ◌≤◌, arith, refl, false}
-use Rattle.std.proofs.lemmas.Bool.{lt-ltb, le-ltb, eqb-false}
-use Rattle.std.proofs.lemmas.Nat.{pow_pos, pow-add, div_below, mod_below}
-use Rattle.std.proofs.Math.Pow.{pow-lt}
+use Rattle.std.proofs.{Common.{◌≡◌, ◌≢◌, ℕ, suc, ◌+◌, ◌-◌, ◌*◌, ◌/◌, ◌%◌, ◌^◌, ◌<◌, ◌≤◌, arith, refl, false}, lemmas.Bool.{lt-ltb, le-ltb}}
+use Rattle.std.proofs.{lemmas.Bool.{eqb-false}, lemmas.Nat.{pow_pos, pow-add, div_below, mod_below}, Math.Pow.{pow-lt}}
 use Rattle.std.proofs.Math.Nat.{div-add-mod, mul-le-mul_left, mod-eq_of_lt}
 use Rattle.exec_core.specs.Bits.{lowest_bit, highest_bit, bit_at}
 

@@ -1,12 +1,9 @@
 -- One push of a general register, by the write and the ESP that it leaves.
 use Rattle.std.proofs.Common.{◌≡◌, ℕ, Bool, ap, ◌∙◌, sym}
-use Rattle.client_world.specs.declared.registers.Regs.{Regs}
-use Rattle.client_world.specs.World.{World}
+use Rattle.client_world.specs.{declared.registers.Regs.{Regs}, World.{World}}
 use Rattle.exec_core.specs.Stacks.{with_pushed_register}
 use Rattle.guest_space.specs.declared.pending.Write.{Write}
-use Rattle.insn_plan.specs.Act.{Pending}
-use Rattle.insn_plan.specs.Registers.{register}
-use Rattle.insn_plan.specs.Stack.{has_big_stack, with_pushed_number, with_push}
+use Rattle.insn_plan.specs.{Act.{Pending}, Registers.{register}, Stack.{has_big_stack, with_pushed_number, with_push}}
 
 pub push_is : (w : World) (big : Bool) (width number v esp : ℕ) (x : Write) (after : ℕ) (p : Pending) (r : Regs) → big ≡ has_big_stack w →
     r ≡ w.regs →

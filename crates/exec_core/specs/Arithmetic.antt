@@ -1,12 +1,10 @@
 -- Arithmetic and logic of two operands and of one.
 -- Source: 80386 Programmer's Reference Manual, ch. 17, each under its name; the formulas are those of cpu_alu.
 use Rattle.std.specs.Prelude.{ℕ}
-use Rattle.client_world.specs.declared.registers.Flags.{Flags}
-use Rattle.client_world.specs.World.{World}
+use Rattle.client_world.specs.{declared.registers.Flags.{Flags}, World.{World}}
 use Rattle.cpu_values.specs.Word.{cut}
 use Rattle.insn_forms.specs.declared.insn.Insn.{Insn}
-use Rattle.insn_plan.specs.Act.{Act, ◌>>=◌, done, with_flags}
-use Rattle.insn_plan.specs.Operands.{source, put_operand}
+use Rattle.insn_plan.specs.{Act.{Act, ◌>>=◌, done, with_flags}, Operands.{source, put_operand}}
 
 -- a formula of two numbers at a width, with flags
 abbrev pub Formula : Type 0

@@ -2,16 +2,11 @@
 -- Source: 80386 Programmer's Reference Manual, ch. 17, each under its name; that BTS, BTR and BTC write a bit back that
 -- doesn't change is own.
 use Rattle.std.specs.Prelude.{ℕ, zero, suc, ◌+◌, ◌-◌, ◌*◌, ◌/◌, ◌%◌, ◌^◌, Bool, true, false, cond, nat_eq, nat_lt, if◌then◌else◌}
-use Rattle.client_world.specs.declared.registers.Flags.{Flags}
-use Rattle.client_world.specs.World.{World}
+use Rattle.client_world.specs.{declared.registers.Flags.{Flags}, World.{World}}
 use Rattle.cpu_values.specs.Word.{cut}
-use Rattle.insn_forms.specs.declared.insn.Insn.{Insn}
-use Rattle.insn_forms.specs.declared.insn.MemForm.{MemForm}
-use Rattle.insn_forms.specs.declared.insn.Operand.{Operand}
+use Rattle.insn_forms.specs.{declared.insn.Insn.{Insn}, declared.insn.MemForm.{MemForm}, declared.insn.Operand.{Operand}}
 use Rattle.insn_forms.specs.declared.insn.Operand.TheVariants.{Reg, Mem}
-use Rattle.insn_plan.specs.Act.{Act, ◌>>=◌, done, unchanged, with_flags}
-use Rattle.insn_plan.specs.Conditions.{condition}
-use Rattle.insn_plan.specs.Operands.{source, put_operand}
+use Rattle.insn_plan.specs.{Act.{Act, ◌>>=◌, done, unchanged, with_flags}, Conditions.{condition}, Operands.{source, put_operand}}
 
 -- SETcc: the operand, a byte, becomes 1 where the condition holds, else 0
 unfoldable pub setcc : World → Insn → ℕ → Act

@@ -1,18 +1,12 @@
 -- Decimal adjustment of AX.
 -- Source: 80386 Programmer's Reference Manual, ch. 17, AAA, AAD, AAM, AAS, DAA, DAS; the formulas are those of cpu_alu.
 use Rattle.std.specs.Prelude.{ℕ, Option, None, Some}
-use Rattle.client_world.specs.declared.faults.TheConstants.{DIVIDE_ERROR}
-use Rattle.client_world.specs.declared.registers.Flags.{Flags}
-use Rattle.client_world.specs.declared.registers.Regs.{Regs}
-use Rattle.client_world.specs.Access.{fault_with}
-use Rattle.client_world.specs.Registers.{low_half}
-use Rattle.client_world.specs.World.{World}
+use Rattle.client_world.specs.{declared.faults.TheConstants.{DIVIDE_ERROR}, declared.registers.Flags.{Flags}}
+use Rattle.client_world.specs.{declared.registers.Regs.{Regs}, Access.{fault_with}, Registers.{low_half}, World.{World}}
 use Rattle.cpu_alu.specs.Decimal.{aad_of, aam_of}
 use Rattle.cpu_values.specs.Word.{cut}
 use Rattle.insn_forms.specs.declared.insn.Insn.{Insn}
-use Rattle.insn_plan.specs.Act.{Act, ◌>>=◌, Pending, done, raise, unchanged, with_regs}
-use Rattle.insn_plan.specs.Operands.{source}
-use Rattle.insn_plan.specs.Registers.{with_register}
+use Rattle.insn_plan.specs.{Act.{Act, ◌>>=◌, Pending, done, raise, unchanged, with_regs}, Operands.{source}, Registers.{with_register}}
 
 -- the registers with another AX and other flags
 abbrev pub with_ax_in : Regs → ℕ × Flags → Regs

@@ -1,28 +1,17 @@
 -- The operations of this crate, and what each of them does.
 use Rattle.std.specs.Prelude.{◌≡◌, ℕ, Bool, true}
 use Rattle.client_world.specs.World.{World}
-use Rattle.cpu_alu.specs.Sums.{add_of, adc_of, sub_of, sbb_of, inc_of, dec_of, neg_of}
-use Rattle.cpu_alu.specs.Logic.{and_of, or_of, xor_of, not_of}
-use Rattle.cpu_alu.specs.Shifts.{shl_of, shr_of, sar_of, rol_of, ror_of, rcl_of, rcr_of}
-use Rattle.cpu_alu.specs.DoubleShifts.{shld_of, shrd_of}
-use Rattle.cpu_alu.specs.Products.{mul_of}
-use Rattle.cpu_alu.specs.Quotients.{div_of, idiv_of}
-use Rattle.cpu_alu.specs.Decimal.{daa_of, das_of, aaa_of, aas_of}
-use Rattle.insn_forms.specs.declared.insn.Insn.{Insn}
-use Rattle.insn_forms.specs.declared.insn.Op.{Op}
-use Rattle.insn_forms.specs.declared.insn.Op.TheVariants as ops
-use Rattle.insn_forms.specs.declared.insn.Operand.{Operand}
-use Rattle.insn_forms.specs.Kinds.{is_of_core, operation}
+use Rattle.cpu_alu.specs.{Sums.{add_of, adc_of, sub_of, sbb_of, inc_of, dec_of, neg_of}, Logic.{and_of, or_of, xor_of, not_of}}
+use Rattle.cpu_alu.specs.{Shifts.{shl_of, shr_of, sar_of, rol_of, ror_of, rcl_of, rcr_of}, DoubleShifts.{shld_of, shrd_of}}
+use Rattle.cpu_alu.specs.{Products.{mul_of}, Quotients.{div_of, idiv_of}, Decimal.{daa_of, das_of, aaa_of, aas_of}}
+use Rattle.insn_forms.specs.{declared.insn.Insn.{Insn}, declared.insn.Op.{Op}, declared.insn.Operand.{Operand}, Kinds.{is_of_core}}
+use Rattle.insn_forms.specs.Kinds.{operation}
 use Rattle.insn_plan.specs.Act.{Act, done, unchanged}
-use Rattle.exec_core.specs.Arithmetic.{binary, compare, unary}
-use Rattle.exec_core.specs.Bits.{setcc, bit_test, bit_change, bit_set, bit_reset, bit_complement, bit_scan, lowest_bit, highest_bit}
-use Rattle.exec_core.specs.Decimal.{adjust, aad, aam}
-use Rattle.exec_core.specs.FlagRows.{clc, stc, cmc, cld, std, lahf, sahf, wait}
-use Rattle.exec_core.specs.Moves.{mov, movzx, movsx, xchg, lea, xlat, cbw, cwd}
-use Rattle.exec_core.specs.Products.{multiply, imul, divide}
-use Rattle.exec_core.specs.Shifts.{shift, shift_in}
-use Rattle.exec_core.specs.Stacks.{push, pop, pusha, popa}
-use Rattle.exec_core.specs.Strings.{movs, cmps, stos, lods, scas}
+use Rattle.exec_core.specs.{Arithmetic.{binary, compare, unary}, Bits.{setcc, bit_test, bit_change, bit_set, bit_reset, bit_complement}}
+use Rattle.exec_core.specs.{Bits.{bit_scan, lowest_bit, highest_bit}, Decimal.{adjust, aad, aam}, FlagRows.{clc, stc, cmc, cld, std, lahf}}
+use Rattle.exec_core.specs.{FlagRows.{sahf, wait}, Moves.{mov, movzx, movsx, xchg, lea, xlat, cbw, cwd}, Products.{multiply, imul, divide}}
+use Rattle.exec_core.specs.{Shifts.{shift, shift_in}, Stacks.{push, pop, pusha, popa}, Strings.{movs, cmps, stos, lods, scas}}
+use Rattle.insn_forms.specs.declared.insn.Op.TheVariants as ops
 
 -- the instruction is one of this crate, by the table of operations
 unfoldable pub is_core : Op → Operand → Operand → Bool

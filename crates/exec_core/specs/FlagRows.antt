@@ -1,11 +1,8 @@
 -- The flags: CLC, STC, CMC, CLD, STD, LAHF, SAHF; and WAIT, which does nothing.
 -- Source: 80386 Programmer's Reference Manual, ch. 17, each under its name.
 use Rattle.std.specs.Prelude.{true, false, not}
-use Rattle.client_world.specs.declared.registers.Flags.{Flags}
-use Rattle.client_world.specs.Registers.{flags_image, flags_of_image, low_byte}
-use Rattle.client_world.specs.World.{World}
-use Rattle.insn_plan.specs.Act.{Act, done, unchanged, with_regs, with_flags}
-use Rattle.insn_plan.specs.Registers.{register, with_register}
+use Rattle.client_world.specs.{declared.registers.Flags.{Flags}, Registers.{flags_image, flags_of_image, low_byte}, World.{World}}
+use Rattle.insn_plan.specs.{Act.{Act, done, unchanged, with_regs, with_flags}, Registers.{register, with_register}}
 
 -- CLC, STC, CMC: CF cleared, set, or the other way
 unfoldable pub clc : World → Act

@@ -1,15 +1,11 @@
 -- Moves: MOV, MOVZX, MOVSX, XCHG, LEA, XLAT, CBW and CWDE, CWD and CDQ.
 -- Source: 80386 Programmer's Reference Manual, ch. 17, each under its name.
 use Rattle.std.specs.Prelude.{ℕ, ◌+◌, ◌-◌, ◌^◌, nat_eq, nat_lt, if◌then◌else◌}
-use Rattle.client_world.specs.Registers.{low_byte}
-use Rattle.client_world.specs.World.{World}
+use Rattle.client_world.specs.{Registers.{low_byte}, World.{World}}
 use Rattle.cpu_values.specs.Word.{cut}
-use Rattle.insn_forms.specs.declared.insn.Insn.{Insn}
-use Rattle.insn_forms.specs.declared.insn.Operand.{Operand}
-use Rattle.insn_forms.specs.declared.insn.Operand.TheVariants.{Mem}
-use Rattle.insn_plan.specs.Act.{Act, ◌>>=◌, From, done, unchanged, with_regs}
-use Rattle.insn_plan.specs.Operands.{source, put_operand}
-use Rattle.insn_plan.specs.Registers.{register, with_register, cut_address, offset_of}
+use Rattle.insn_forms.specs.{declared.insn.Insn.{Insn}, declared.insn.Operand.{Operand}, declared.insn.Operand.TheVariants.{Mem}}
+use Rattle.insn_plan.specs.{Act.{Act, ◌>>=◌, From, done, unchanged, with_regs}, Operands.{source, put_operand}, Registers.{register}}
+use Rattle.insn_plan.specs.Registers.{with_register, cut_address, offset_of}
 
 -- MOV: the destination becomes the source
 unfoldable pub mov : World → Insn → Act

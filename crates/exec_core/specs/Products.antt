@@ -1,18 +1,12 @@
 -- Products and quotients. A double word lies in AX at 8 bits, in DX:AX at 16, and in EDX:EAX at 32.
 -- Source: 80386 Programmer's Reference Manual, ch. 17, MUL, IMUL, DIV, IDIV.
 use Rattle.std.specs.Prelude.{ℕ, Bool, true, false, nat_eq, if◌then◌else◌, Option, None, Some}
-use Rattle.client_world.specs.declared.faults.TheConstants.{DIVIDE_ERROR}
-use Rattle.client_world.specs.declared.registers.Flags.{Flags}
-use Rattle.client_world.specs.declared.registers.Regs.{Regs}
-use Rattle.client_world.specs.Access.{fault_with}
-use Rattle.client_world.specs.World.{World}
+use Rattle.client_world.specs.{declared.faults.TheConstants.{DIVIDE_ERROR}, declared.registers.Flags.{Flags}}
+use Rattle.client_world.specs.{declared.registers.Regs.{Regs}, Access.{fault_with}, World.{World}}
 use Rattle.cpu_alu.specs.Products.{imul_of}
 use Rattle.cpu_values.specs.Word.{cut}
-use Rattle.insn_forms.specs.declared.insn.Insn.{Insn}
-use Rattle.insn_forms.specs.declared.insn.Operand.{Operand}
-use Rattle.insn_forms.specs.declared.insn.Operand.TheVariants.{Empty}
-use Rattle.insn_plan.specs.Act.{Act, ◌>>=◌, done, raise, unchanged, with_regs, with_flags}
-use Rattle.insn_plan.specs.Operands.{source, put_operand}
+use Rattle.insn_forms.specs.{declared.insn.Insn.{Insn}, declared.insn.Operand.{Operand}, declared.insn.Operand.TheVariants.{Empty}}
+use Rattle.insn_plan.specs.{Act.{Act, ◌>>=◌, done, raise, unchanged, with_regs, with_flags}, Operands.{source, put_operand}}
 use Rattle.insn_plan.specs.Registers.{register, with_register}
 
 -- the register of the high half: AH at 8 bits, else (E)DX

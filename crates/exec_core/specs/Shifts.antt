@@ -1,12 +1,10 @@
 -- Shifts and rotates, and the double shifts. An operand in memory is written back also where the count is 0.
 -- Source: 80386 Programmer's Reference Manual, ch. 17, "RCL/RCR/ROL/ROR", "SAL/SAR/SHL/SHR", SHLD, SHRD; that a count of 0 writes is own.
 use Rattle.std.specs.Prelude.{ℕ}
-use Rattle.client_world.specs.declared.registers.Flags.{Flags}
-use Rattle.client_world.specs.World.{World}
+use Rattle.client_world.specs.{declared.registers.Flags.{Flags}, World.{World}}
 use Rattle.cpu_values.specs.Word.{cut}
 use Rattle.insn_forms.specs.declared.insn.Insn.{Insn}
-use Rattle.insn_plan.specs.Act.{Act, ◌>>=◌, done, with_flags}
-use Rattle.insn_plan.specs.Operands.{source, put_operand}
+use Rattle.insn_plan.specs.{Act.{Act, ◌>>=◌, done, with_flags}, Operands.{source, put_operand}}
 use Rattle.exec_core.specs.Arithmetic.{Formula}
 
 -- SHL, SHR, SAR, ROL, ROR, RCL, RCR: the first operand moved by the count in the second, a byte

@@ -3,10 +3,8 @@
 use Rattle.std.specs.Prelude.{ℕ}
 use Rattle.client_world.specs.World.{World}
 use Rattle.insn_forms.specs.declared.insn.Insn.{Insn}
-use Rattle.insn_plan.specs.Act.{Act, ◌>>=◌, Pending, done, unchanged, with_regs}
-use Rattle.insn_plan.specs.Operands.{source, put_operand}
-use Rattle.insn_plan.specs.Registers.{register, with_register}
-use Rattle.insn_plan.specs.Stack.{with_pushed_number, stack_item, regs_after_pops}
+use Rattle.insn_plan.specs.{Act.{Act, ◌>>=◌, Pending, done, unchanged, with_regs}, Operands.{source, put_operand}, Registers.{register}}
+use Rattle.insn_plan.specs.{Registers.{with_register}, Stack.{with_pushed_number, stack_item, regs_after_pops}}
 
 -- PUSH: the operand's value, (E)SP's from before
 unfoldable pub push : World → Insn → Act

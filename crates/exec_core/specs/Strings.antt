@@ -3,20 +3,15 @@
 -- Source: 80386 Programmer's Reference Manual, ch. 17, "MOVS/MOVSB/..", "CMPS/..", "STOS/..", "LODS/..", "SCAS/..", "REP/.."; that a
 -- repetition is a step is own.
 use Rattle.std.specs.Prelude.{ℕ, ◌+◌, ◌-◌, ◌%◌, ◌^◌, Bool, true, false, not, ◌&&◌, nat_eq, if◌then◌else◌}
-use Rattle.client_world.specs.declared.registers.Flags.{Flags}
-use Rattle.client_world.specs.declared.registers.Regs.{Regs}
-use Rattle.client_world.specs.declared.segments.SegReg.TheVariants.{Es}
+use Rattle.client_world.specs.{declared.registers.Flags.{Flags}, declared.registers.Regs.{Regs}, declared.segments.SegReg.TheVariants.{Es}}
 use Rattle.client_world.specs.World.{World}
 use Rattle.cpu_alu.specs.Sums.{sub_of}
 use Rattle.cpu_values.specs.Word.{cut}
 use Rattle.guest_space.specs.Pending.{byte_count}
-use Rattle.insn_forms.specs.declared.insn.Insn.{Insn}
-use Rattle.insn_forms.specs.declared.insn.Rep.{Rep}
-use Rattle.insn_forms.specs.declared.insn.Rep.TheVariants as reps
-use Rattle.insn_plan.specs.Act.{Act, ◌>>=◌, From, Input, done, unchanged, with_regs}
-use Rattle.insn_plan.specs.Operands.{and_write}
-use Rattle.insn_plan.specs.Counter.{counter}
+use Rattle.insn_forms.specs.{declared.insn.Insn.{Insn}, declared.insn.Rep.{Rep}}
+use Rattle.insn_plan.specs.{Act.{Act, ◌>>=◌, From, Input, done, unchanged, with_regs}, Operands.{and_write}, Counter.{counter}}
 use Rattle.insn_plan.specs.Registers.{register, with_register, cut_address, with_address}
+use Rattle.insn_forms.specs.declared.insn.Rep.TheVariants as reps
 
 -- the instruction has a repeat prefix
 abbrev pub is_repeated : Rep → Bool

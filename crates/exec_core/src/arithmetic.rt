@@ -1,4 +1,9 @@
 // Arithmetic and logic of two operands and of one.
+#![tactic(auto, unfolding(crate::specs::Arithmetic::binary, insn_plan::specs::Operands::source, //
+insn_plan::specs::Operands::put_operand, insn_plan::specs::Act::value_of, crate::specs::Arithmetic::compare, //
+crate::specs::Arithmetic::unary, insn_plan::specs::Plan::after_plan, insn_plan::specs::Plan::after_commit, //
+guest_space::specs::Pending::first_write_fault, guest_space::specs::Pending::after_writes))]
+
 ghost use Rattle.std.specs.Prelude.{◌≡◌, IsTrue};
 ghost use Rattle.cpu_alu.specs.Sums.{sub_of};
 ghost use Rattle.cpu_values.specs.Word.{IsWidth, cut};
@@ -90,9 +95,6 @@ fn result_of<const W: u8, O: BinaryAt<W>>(m: &Machine, a: u32, b: u32) -> (u32, 
 
 // The row of an operation of two numbers of W bits.
 #[inline(always)]
-#[tactic(auto, unfolding(crate::specs::Arithmetic::binary, insn_plan::specs::Operands::source, insn_plan::specs::Operands::put_operand, //
-insn_plan::specs::Act::value_of, insn_plan::specs::Plan::after_plan, insn_plan::specs::Plan::after_commit, //
-guest_space::specs::Pending::first_write_fault, guest_space::specs::Pending::after_writes))]
 fn binary_at<const W: u8, L: Look, O: BinaryAt<W>>(
     m: &mut Machine,
     i: &Insn,
@@ -119,8 +121,6 @@ impl<O: Binary> InsnRow for Arithmetic<O> {
 
 // The row of a comparison of two numbers of W bits.
 #[inline(always)]
-#[tactic(auto, unfolding(crate::specs::Arithmetic::compare, insn_plan::specs::Plan::after_plan, insn_plan::specs::Plan::after_commit, //
-guest_space::specs::Pending::first_write_fault, guest_space::specs::Pending::after_writes))]
 fn compare_at<const W: u8, L: Look, O: BinaryAt<W>>(
     m: &mut Machine,
     i: &Insn,
@@ -174,9 +174,6 @@ fn result_of_one<const W: u8, O: UnaryAt<W>>(m: &Machine, a: u32) -> (u32, Flags
 
 // The row of an operation of one number of W bits.
 #[inline(always)]
-#[tactic(auto, unfolding(crate::specs::Arithmetic::unary, insn_plan::specs::Operands::source, insn_plan::specs::Operands::put_operand, //
-insn_plan::specs::Act::value_of, insn_plan::specs::Plan::after_plan, insn_plan::specs::Plan::after_commit, //
-guest_space::specs::Pending::first_write_fault, guest_space::specs::Pending::after_writes))]
 fn unary_at<const W: u8, L: Look, O: UnaryAt<W>>(m: &mut Machine, i: &Insn) -> Result<(), L::Missed>
     requires width { IsWidth W }
     requires same { i.now.width ≡ W }

@@ -1,19 +1,11 @@
 // Bits of an operand, and SETcc.
+#![tactic(auto, unfolding(crate::specs::Bits::setcc, crate::specs::Bits::bit_test, crate::specs::Bits::bit_change, //
+crate::specs::Bits::bit_scan, insn_plan::specs::Plan::after_plan, insn_plan::specs::Plan::after_commit, //
+guest_space::specs::Pending::first_write_fault, guest_space::specs::Pending::after_writes))]
+
 ghost use Rattle.std.specs.Prelude.{◌≡◌, ℕ, ◌+◌, ◌%◌, ◌<◌, ◌^◌, IsTrue};
-ghost use Rattle.exec_core.specs.Bits.{
-  setcc,
-  bit_distance,
-  bit_operand,
-  bit_at,
-  bit_set,
-  bit_reset,
-  bit_complement,
-  bit_test,
-  bit_change,
-  bit_scan,
-  lowest_bit,
-  highest_bit,
-};
+ghost use Rattle.exec_core.specs.Bits.{setcc, bit_distance, bit_operand, bit_at, bit_set, bit_reset, bit_complement, bit_test, bit_change};
+ghost use Rattle.exec_core.specs.Bits.{bit_scan, lowest_bit, highest_bit};
 ghost use Rattle.insn_forms.specs.Kinds.{is_width};
 ghost use Rattle.insn_plan.specs.Plan.{CarriesOut};
 
@@ -25,7 +17,6 @@ use insn_plan::{Raised, condition, put_operand, put_with_flags, source};
 
 /// SETcc. Source: 80386 Programmer's Reference Manual, ch. 17.
 #[inline(never)]
-#[tactic(auto, unfolding(crate::specs::Bits::setcc, insn_plan::specs::Plan::after_plan))]
 pub(crate) fn setcc(m: &mut Machine, i: &Insn, n: u8) -> Result<(), Raised>
     ensures { CarriesOut m.old m.new result (setcc m.old.world i.now n) }
 {
@@ -84,8 +75,6 @@ fn bit_at(v: u32, n: u8) -> bool
 
 /// BT. Source: 80386 Programmer's Reference Manual, ch. 17.
 #[inline(never)]
-#[tactic(auto, unfolding(crate::specs::Bits::bit_test, insn_plan::specs::Plan::after_plan, insn_plan::specs::Plan::after_commit, //
-guest_space::specs::Pending::first_write_fault, guest_space::specs::Pending::after_writes))]
 pub(crate) fn bit_test(m: &mut Machine, i: &Insn) -> Result<(), Raised>
     requires { IsTrue (is_width i.now.width) }
     ensures { CarriesOut m.old m.new result (bit_test m.old.world i.now) }
@@ -151,7 +140,6 @@ impl BitChange for Toggle {
 
 /// BTS, BTR, BTC. Source: 80386 Programmer's Reference Manual, ch. 17.
 #[inline(never)]
-#[tactic(auto, unfolding(crate::specs::Bits::bit_change, insn_plan::specs::Plan::after_plan))]
 pub(crate) fn bit_change<C: BitChange>(m: &mut Machine, i: &Insn) -> Result<(), Raised>
     requires { IsTrue (is_width i.now.width) }
     ensures { CarriesOut m.old m.new result (bit_change C.formula m.old.world i.now) }
@@ -195,8 +183,6 @@ fn highest_bit(mut v: u32, width: u8) -> u32
 
 /// BSF. Source: 80386 Programmer's Reference Manual, ch. 17.
 #[inline(never)]
-#[tactic(auto, unfolding(crate::specs::Bits::bit_scan, insn_plan::specs::Plan::after_plan, insn_plan::specs::Plan::after_commit, //
-guest_space::specs::Pending::first_write_fault, guest_space::specs::Pending::after_writes))]
 pub(crate) fn bit_scan_forward(m: &mut Machine, i: &Insn) -> Result<(), Raised>
     requires { IsTrue (is_width i.now.width) }
     ensures { CarriesOut m.old m.new result (bit_scan lowest_bit m.old.world i.now) }
@@ -216,8 +202,6 @@ pub(crate) fn bit_scan_forward(m: &mut Machine, i: &Insn) -> Result<(), Raised>
 
 /// BSR. Source: 80386 Programmer's Reference Manual, ch. 17.
 #[inline(never)]
-#[tactic(auto, unfolding(crate::specs::Bits::bit_scan, insn_plan::specs::Plan::after_plan, insn_plan::specs::Plan::after_commit, //
-guest_space::specs::Pending::first_write_fault, guest_space::specs::Pending::after_writes))]
 pub(crate) fn bit_scan_reverse(m: &mut Machine, i: &Insn) -> Result<(), Raised>
     requires { IsTrue (is_width i.now.width) }
     ensures { CarriesOut m.old m.new result (bit_scan highest_bit m.old.world i.now) }

@@ -1,23 +1,14 @@
 // Moves.
+#![tactic(auto, unfolding(crate::specs::Moves::mov, insn_plan::specs::Operands::put_operand, crate::specs::Moves::movzx, //
+crate::specs::Moves::movsx, crate::specs::Moves::xchg, crate::specs::Moves::lea, crate::specs::Moves::xlat, crate::specs::Moves::cwd, //
+insn_plan::specs::Plan::after_plan, insn_plan::specs::Plan::after_commit, guest_space::specs::Pending::first_write_fault, //
+guest_space::specs::Pending::after_writes))]
+
 ghost use Rattle.std.specs.Prelude.{◌≡◌, ◌<◌, ◌^◌, IsTrue};
 ghost use Rattle.cpu_values.specs.Word.{cut};
-ghost use Rattle.exec_core.specs.Moves.{
-  mov,
-  movzx,
-  movsx,
-  xchg,
-  lea,
-  xlat,
-  cbw,
-  cwd,
-  sign_extended,
-  sign_bits,
-  half_width,
-  operand_offset,
-};
+ghost use Rattle.exec_core.specs.Moves.{mov, movzx, movsx, xchg, lea, xlat, cbw, cwd, sign_extended, sign_bits, half_width, operand_offset};
 ghost use Rattle.insn_forms.specs.Kinds.{is_width};
-ghost use Rattle.insn_plan.specs.Looks.{CarriesOutBy};
-ghost use Rattle.insn_plan.specs.Plan.{CarriesOut};
+ghost use Rattle.insn_plan.specs.{Looks.{CarriesOutBy}, Plan.{CarriesOut}};
 
 use crate::arithmetic::at_known_width;
 use client_world::general::{EAX, EDX};
@@ -44,8 +35,6 @@ pub(crate) fn cut(width: u8, v: u32) -> u32
 
 // The row of MOV at a width.
 #[inline(always)]
-#[tactic(auto, unfolding(crate::specs::Moves::mov, insn_plan::specs::Operands::put_operand, insn_plan::specs::Plan::after_plan, //
-insn_plan::specs::Plan::after_commit, guest_space::specs::Pending::first_write_fault, guest_space::specs::Pending::after_writes))]
 fn mov_at<L: Look>(m: &mut Machine, i: &Insn, width: u8) -> Result<(), L::Missed>
     requires { i.now.width ≡ width }
     ensures { CarriesOutBy L.reported m.old m.new result (mov m.old.world i.now) }
@@ -80,7 +69,6 @@ impl InsnRow for Mov {
 
 /// MOVZX. Source: 80386 Programmer's Reference Manual, ch. 17.
 #[inline(never)]
-#[tactic(auto, unfolding(crate::specs::Moves::movzx, insn_plan::specs::Plan::after_plan))]
 pub(crate) fn movzx(m: &mut Machine, i: &Insn, from: u8) -> Result<(), Raised>
     requires { IsTrue (is_width from) }
     ensures { CarriesOut m.old m.new result (movzx m.old.world i.now from) }
@@ -107,7 +95,6 @@ fn sign_extended(from: u8, width: u8, v: u32) -> u32
 
 /// MOVSX. Source: 80386 Programmer's Reference Manual, ch. 17.
 #[inline(never)]
-#[tactic(auto, unfolding(crate::specs::Moves::movsx, insn_plan::specs::Plan::after_plan))]
 pub(crate) fn movsx(m: &mut Machine, i: &Insn, from: u8) -> Result<(), Raised>
     requires from { IsTrue (is_width from) }
     requires width { IsTrue (is_width i.now.width) }
@@ -120,7 +107,6 @@ pub(crate) fn movsx(m: &mut Machine, i: &Insn, from: u8) -> Result<(), Raised>
 
 /// XCHG. Source: 80386 Programmer's Reference Manual, ch. 17.
 #[inline(never)]
-#[tactic(auto, unfolding(crate::specs::Moves::xchg, insn_plan::specs::Plan::after_plan))]
 pub(crate) fn xchg(m: &mut Machine, i: &Insn) -> Result<(), Raised>
     ensures { CarriesOut m.old m.new result (xchg m.old.world i.now) }
 {
@@ -145,7 +131,6 @@ fn operand_offset(m: &Machine, i: &Insn, operand: &Operand) -> u32
 
 /// LEA. Source: 80386 Programmer's Reference Manual, ch. 17.
 #[inline(never)]
-#[tactic(auto, unfolding(crate::specs::Moves::lea, insn_plan::specs::Plan::after_plan))]
 pub(crate) fn lea(m: &mut Machine, i: &Insn) -> Result<(), Raised>
     requires { IsTrue (is_width i.now.width) }
     ensures { CarriesOut m.old m.new result (lea m.old.world i.now) }
@@ -156,8 +141,6 @@ pub(crate) fn lea(m: &mut Machine, i: &Insn) -> Result<(), Raised>
 
 /// XLAT. Source: 80386 Programmer's Reference Manual, ch. 17.
 #[inline(never)]
-#[tactic(auto, unfolding(crate::specs::Moves::xlat, insn_plan::specs::Plan::after_plan, insn_plan::specs::Plan::after_commit, //
-guest_space::specs::Pending::first_write_fault, guest_space::specs::Pending::after_writes))]
 pub(crate) fn xlat(m: &mut Machine, i: &Insn) -> Result<(), Raised>
     ensures { CarriesOut m.old m.new result (xlat m.old.world i.now) }
 {
@@ -204,8 +187,6 @@ fn sign_bits(width: u8, v: u32) -> u32
 
 /// CWD and CDQ. Source: 80386 Programmer's Reference Manual, ch. 17.
 #[inline(never)]
-#[tactic(auto, unfolding(crate::specs::Moves::cwd, insn_plan::specs::Plan::after_plan, insn_plan::specs::Plan::after_commit, //
-guest_space::specs::Pending::first_write_fault, guest_space::specs::Pending::after_writes))]
 pub(crate) fn cwd(m: &mut Machine, i: &Insn) -> Result<(), Raised>
     requires { IsTrue (is_width i.now.width) }
     ensures { CarriesOut m.old m.new result (cwd m.old.world i.now) }

@@ -1,7 +1,6 @@
 // The operations of two numbers and of one, at a width of 8, 16 or 32 bits.
 ghost use Rattle.std.specs.Prelude.{◌≡◌};
-ghost use Rattle.cpu_alu.specs.Logic.{and_of, or_of, xor_of, not_of};
-ghost use Rattle.cpu_alu.specs.Sums.{add_of, adc_of, sub_of, sbb_of, inc_of, dec_of, neg_of};
+ghost use Rattle.cpu_alu.specs.{Logic.{and_of, or_of, xor_of, not_of}, Sums.{add_of, adc_of, sub_of, sbb_of, inc_of, dec_of, neg_of}};
 ghost use Rattle.cpu_values.specs.Word.{IsWidth};
 ghost use Rattle.exec_core.specs.Arithmetic.{Formula, SingleFormula};
 

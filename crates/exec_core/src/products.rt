@@ -1,28 +1,19 @@
 // Products and quotients.
+#![tactic(auto, unfolding(insn_plan::specs::Registers::register, crate::specs::Products::multiply, //
+crate::specs::Products::multiply_two, crate::specs::Products::multiply_three, crate::specs::Products::imul, //
+crate::specs::Products::divide, insn_plan::specs::Plan::after_plan, insn_plan::specs::Plan::after_commit, //
+guest_space::specs::Pending::first_write_fault, guest_space::specs::Pending::after_writes))]
+
 ghost use Rattle.std.specs.Prelude.{◌≡◌, IsTrue};
-ghost use Rattle.client_world.specs.Access.{fault_with};
-ghost use Rattle.client_world.specs.declared.faults.TheConstants.{DIVIDE_ERROR};
+ghost use Rattle.client_world.specs.{Access.{fault_with}, declared.faults.TheConstants.{DIVIDE_ERROR}};
 ghost use Rattle.client_world.specs.declared.faults.Event.TheVariants.{Fault as fault};
-ghost use Rattle.cpu_alu.specs.Products.{mul_of, imul_of};
-ghost use Rattle.cpu_alu.specs.Quotients.{div_of, idiv_of};
+ghost use Rattle.cpu_alu.specs.{Products.{mul_of, imul_of}, Quotients.{div_of, idiv_of}};
 ghost use Rattle.cpu_values.specs.Word.{cut};
-ghost use Rattle.exec_core.specs.Products.{
-  Product,
-  Quotient,
-  multiply,
-  multiply_two,
-  multiply_three,
-  imul,
-  divide,
-  with_double,
-  high_register,
-};
+ghost use Rattle.exec_core.specs.Products.{Product, Quotient, multiply, multiply_two, multiply_three, imul, divide, with_double};
+ghost use Rattle.exec_core.specs.Products.{high_register};
 ghost use Rattle.guest_space.specs.Registers.{with_registers};
 ghost use Rattle.insn_forms.specs.Kinds.{is_width};
-ghost use Rattle.insn_plan.specs.Act.{with_flags};
-ghost use Rattle.insn_plan.specs.Operands.{put_operand};
-ghost use Rattle.insn_plan.specs.Plan.{CarriesOut, Follows, after_commit};
-ghost use Rattle.insn_plan.specs.Registers.{register};
+ghost use Rattle.insn_plan.specs.{Act.{with_flags}, Operands.{put_operand}, Plan.{CarriesOut, Follows, after_commit}, Registers.{register}};
 
 use client_world::faults::DIVIDE_ERROR;
 use client_world::general::{EAX, EDX};
@@ -153,7 +144,6 @@ pub(crate) fn high_register(width: u8) -> u8
 }
 
 /// The register of a number, and that it has no more bits than the width.
-#[tactic(auto, unfolding(insn_plan::specs::Registers::register))]
 pub(crate) fn word_in(r: &Regs, width: u8, n: u8) -> u32
     requires { IsTrue (is_width width) }
     ensures value { result ≡ register r.now width n }
@@ -168,8 +158,6 @@ pub(crate) fn word_in(r: &Regs, width: u8, n: u8) -> u32
 
 /// MUL, and IMUL of one operand. Source: 80386 Programmer's Reference Manual, ch. 17.
 #[inline(never)]
-#[tactic(auto, unfolding(crate::specs::Products::multiply, insn_plan::specs::Plan::after_plan, insn_plan::specs::Plan::after_commit, //
-guest_space::specs::Pending::first_write_fault, guest_space::specs::Pending::after_writes))]
 pub(crate) fn multiply<S: Sign>(m: &mut Machine, i: &Insn) -> Result<(), Raised>
     requires { IsTrue (is_width i.now.width) }
     ensures { CarriesOut m.old m.new result (multiply S.product m.old.world i.now) }
@@ -194,7 +182,6 @@ fn put_low_product(m: &mut Machine, i: &Insn, a: u32, b: u32) -> Result<(), Rais
 }
 
 // IMUL of two operands.
-#[tactic(auto, unfolding(crate::specs::Products::multiply_two, insn_plan::specs::Plan::after_plan))]
 fn multiply_two(m: &mut Machine, i: &Insn) -> Result<(), Raised>
     requires { IsTrue (is_width i.now.width) }
     ensures { CarriesOut m.old m.new result (multiply_two m.old.world i.now) }
@@ -205,7 +192,6 @@ fn multiply_two(m: &mut Machine, i: &Insn) -> Result<(), Raised>
 }
 
 // IMUL of three operands.
-#[tactic(auto, unfolding(crate::specs::Products::multiply_three, insn_plan::specs::Plan::after_plan))]
 fn multiply_three(m: &mut Machine, i: &Insn) -> Result<(), Raised>
     requires { IsTrue (is_width i.now.width) }
     ensures { CarriesOut m.old m.new result (multiply_three m.old.world i.now) }
@@ -217,7 +203,6 @@ fn multiply_three(m: &mut Machine, i: &Insn) -> Result<(), Raised>
 
 /// IMUL, by the number of its operands. Source: 80386 Programmer's Reference Manual, ch. 17.
 #[inline(never)]
-#[tactic(auto, unfolding(crate::specs::Products::imul))]
 pub(crate) fn multiply_signed(m: &mut Machine, i: &Insn) -> Result<(), Raised>
     requires { IsTrue (is_width i.now.width) }
     ensures { CarriesOut m.old m.new result (imul m.old.world i.now) }
@@ -233,8 +218,6 @@ pub(crate) fn multiply_signed(m: &mut Machine, i: &Insn) -> Result<(), Raised>
 
 /// DIV and IDIV; exception 0 where there is no quotient. Source: 80386 Programmer's Reference Manual, ch. 17.
 #[inline(never)]
-#[tactic(auto, unfolding(crate::specs::Products::divide, insn_plan::specs::Plan::after_plan, insn_plan::specs::Plan::after_commit, //
-guest_space::specs::Pending::first_write_fault, guest_space::specs::Pending::after_writes))]
 pub(crate) fn divide<S: Sign>(m: &mut Machine, i: &Insn) -> Result<(), Raised>
     requires { IsTrue (is_width i.now.width) }
     ensures { CarriesOut m.old m.new result (divide S.quotient m.old.world i.now) }

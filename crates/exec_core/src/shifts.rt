@@ -4,8 +4,7 @@ ghost use Rattle.cpu_alu.specs.DoubleShifts.{shld_of, shrd_of};
 ghost use Rattle.cpu_values.specs.Word.{IsWidth, cut};
 ghost use Rattle.exec_core.specs.Shifts.{DoubleFormula, shift, shift_in};
 ghost use Rattle.insn_forms.specs.Kinds.{is_width};
-ghost use Rattle.insn_plan.specs.Looks.{CarriesOutBy};
-ghost use Rattle.insn_plan.specs.Plan.{CarriesOut};
+ghost use Rattle.insn_plan.specs.{Looks.{CarriesOutBy}, Plan.{CarriesOut}};
 
 use crate::arithmetic::{at_width, change_first};
 use crate::shift_operations::{Shift, ShiftAt};

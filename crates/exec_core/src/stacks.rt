@@ -1,9 +1,12 @@
 // PUSH and POP of general registers and memory, PUSHA and POPA.
+#![tactic(auto, unfolding(crate::specs::Stacks::push, crate::specs::Stacks::pop, insn_plan::specs::Stack::regs_after_pops, //
+insn_plan::specs::Operands::put_operand, client_world::specs::General::with_general, crate::specs::Stacks::popa, //
+insn_plan::specs::Plan::after_plan, insn_plan::specs::Plan::after_commit, guest_space::specs::Pending::first_write_fault, //
+guest_space::specs::Pending::after_writes))]
+
 ghost use Rattle.std.specs.Prelude.{◌≡◌, ◌≢◌, ◌<◌, ℕ, Ok, false, slice_index};
 ghost use Rattle.exec_core.specs.Stacks.{push, pop, pusha, popa};
-ghost use Rattle.insn_plan.specs.Act.{done, value_of};
-ghost use Rattle.insn_plan.specs.Looks.{CarriesOutBy};
-ghost use Rattle.insn_plan.specs.Plan.{CarriesOut, after_plan, plan_result};
+ghost use Rattle.insn_plan.specs.{Act.{done, value_of}, Looks.{CarriesOutBy}, Plan.{CarriesOut, after_plan, plan_result}};
 ghost use Rattle.insn_plan.specs.Stack.{has_big_stack, pending_of_pushes, stack_item};
 ghost use Rattle.insn_forms.specs.declared.insn.Insn.{Insn};
 
@@ -20,7 +23,6 @@ use insn_plan::{
 
 // The row of PUSH at a width.
 #[inline(always)]
-#[tactic(auto, unfolding(crate::specs::Stacks::push, insn_plan::specs::Plan::after_plan))]
 fn push_at<L: Look>(m: &mut Machine, i: &Insn, width: u8) -> Result<(), L::Missed>
     requires { i.now.width ≡ width }
     ensures { CarriesOutBy L.reported m.old m.new result (push m.old.world i.now) }
@@ -44,9 +46,6 @@ impl InsnRow for Push {
 
 // The row of POP at a width.
 #[inline(always)]
-#[tactic(auto, unfolding(crate::specs::Stacks::pop, insn_plan::specs::Stack::regs_after_pops, insn_plan::specs::Operands::put_operand, //
-insn_plan::specs::Plan::after_plan, insn_plan::specs::Plan::after_commit, guest_space::specs::Pending::first_write_fault, //
-guest_space::specs::Pending::after_writes, client_world::specs::General::with_general))]
 fn pop_at<L: Look>(m: &mut Machine, i: &Insn, width: u8) -> Result<(), L::Missed>
     requires { i.now.width ≡ width }
     ensures { CarriesOutBy L.reported m.old m.new result (pop m.old.world i.now) }
@@ -102,7 +101,6 @@ fn eight_pushes(m: &Machine, width: u8, big: bool) -> ([Write; 8], u32)
 
 // PUSHA at any width, on any stack.
 #[inline(never)]
-#[tactic(auto, unfolding(insn_plan::specs::Plan::after_plan))]
 fn pusha_in_general(m: &mut Machine, i: &Insn) -> Result<(), Raised>
     ensures { CarriesOut m.old m.new result (pusha m.old.world i.now) }
 {
@@ -112,7 +110,6 @@ fn pusha_in_general(m: &mut Machine, i: &Insn) -> Result<(), Raised>
 
 // PUSHA at a width that is known, where the stack pointer is SP.
 #[inline(always)]
-#[tactic(auto, unfolding(insn_plan::specs::Plan::after_plan))]
 fn pusha_of_width(m: &mut Machine, i: &Insn, width: u8) -> Result<(), Raised>
     requires width { width ≡ i.now.width }
     requires small { has_big_stack m.old.world ≡ false }
@@ -144,9 +141,6 @@ pub(crate) fn pusha(m: &mut Machine, i: &Insn) -> Result<(), Raised>
 
 // Sets the registers to the items that POPA reads, by their places on the stack, and ESP; the item at place 3 is passed over.
 #[inline(always)]
-#[tactic(auto, unfolding(crate::specs::Stacks::popa, insn_plan::specs::Stack::regs_after_pops, insn_plan::specs::Plan::after_plan, //
-insn_plan::specs::Plan::after_commit, guest_space::specs::Pending::first_write_fault, guest_space::specs::Pending::after_writes, //
-client_world::specs::General::with_general))]
 fn set_popped(m: &mut Machine, i: &Insn, width: u8, items: [u32; 8])
     requires width { width ≡ i.now.width }
     requires items { (k : ℕ) → k < 8 → k ≢ 3 →
@@ -167,7 +161,6 @@ fn set_popped(m: &mut Machine, i: &Insn, width: u8, items: [u32; 8])
 
 // POPA, item by item.
 #[inline(never)]
-#[tactic(auto, unfolding(crate::specs::Stacks::popa, insn_plan::specs::Plan::after_plan))]
 fn popa_by_items(m: &mut Machine, i: &Insn) -> Result<(), Raised>
     ensures { CarriesOut m.old m.new result (popa m.old.world i.now) }
 {

@@ -1,24 +1,15 @@
 // Strings. One step is one element.
+#![tactic(auto, unfolding(client_world::specs::General::with_general, crate::specs::Strings::movs, crate::specs::Strings::cmps, //
+crate::specs::Strings::stos, crate::specs::Strings::lods, insn_plan::specs::Registers::with_register, crate::specs::Strings::scas, //
+insn_plan::specs::Plan::after_plan, insn_plan::specs::Plan::after_commit, guest_space::specs::Pending::first_write_fault, //
+guest_space::specs::Pending::after_writes))]
+
 ghost use Rattle.std.specs.Prelude.{◌≡◌, IsTrue};
-ghost use Rattle.exec_core.specs.Strings.{
-  is_repeated,
-  is_over,
-  element_distance,
-  moved_address,
-  with_source_next,
-  with_destination_next,
-  repeated,
-  goes_on_while,
-  movs,
-  cmps,
-  stos,
-  lods,
-  scas,
-};
+ghost use Rattle.exec_core.specs.Strings.{is_repeated, is_over, element_distance, moved_address, with_source_next, with_destination_next};
+ghost use Rattle.exec_core.specs.Strings.{repeated, goes_on_while, movs, cmps, stos, lods, scas};
 ghost use Rattle.insn_forms.specs.Kinds.{is_width};
 ghost use Rattle.guest_space.specs.Registers.{with_registers};
-ghost use Rattle.insn_plan.specs.Looks.{CarriesOutBy};
-ghost use Rattle.insn_plan.specs.Registers.{cut_address};
+ghost use Rattle.insn_plan.specs.{Looks.{CarriesOutBy}, Registers.{cut_address}};
 
 use crate::arithmetic::difference_flags;
 use client_world::general::{EAX, ECX, EDI, ESI};
@@ -102,7 +93,6 @@ fn destination_offset(m: &Machine, addr32: bool) -> u32
 
 // Moves (E)SI to the next element.
 #[inline(always)]
-#[tactic(auto, unfolding(client_world::specs::General::with_general))]
 fn move_source(m: &mut Machine, i: &Insn, width: u8, addr32: bool)
     requires width { width ≡ i.now.width }
     requires size { addr32 ≡ i.now.addr32 }
@@ -114,7 +104,6 @@ fn move_source(m: &mut Machine, i: &Insn, width: u8, addr32: bool)
 
 // Moves (E)DI to the next element.
 #[inline(always)]
-#[tactic(auto, unfolding(client_world::specs::General::with_general))]
 fn move_destination(m: &mut Machine, i: &Insn, width: u8, addr32: bool)
     requires width { width ≡ i.now.width }
     requires size { addr32 ≡ i.now.addr32 }
@@ -126,7 +115,6 @@ fn move_destination(m: &mut Machine, i: &Insn, width: u8, addr32: bool)
 
 // Moves both to the next element.
 #[inline(always)]
-#[tactic(auto, unfolding(client_world::specs::General::with_general))]
 fn move_both(m: &mut Machine, i: &Insn, width: u8, addr32: bool)
     requires width { width ≡ i.now.width }
     requires size { addr32 ≡ i.now.addr32 }
@@ -141,7 +129,6 @@ fn move_both(m: &mut Machine, i: &Insn, width: u8, addr32: bool)
 
 // Counts an element under a repeat prefix: the counter goes down, and while there are more the instruction pointer goes back.
 #[inline(always)]
-#[tactic(auto, unfolding(client_world::specs::General::with_general))]
 fn count_element(m: &mut Machine, i: &Insn, addr32: bool, len: u8, goes_on: bool)
     requires { addr32 ≡ i.now.addr32 }
     ensures { m.new ≡ with_registers (repeated m.old.world i.now len goes_on m.old.world.regs) m.old }
@@ -171,8 +158,6 @@ fn goes_on_while(rep: Rep, f: Flags) -> bool
 
 // The row of MOVS at a width and an address size.
 #[inline(always)]
-#[tactic(auto, unfolding(crate::specs::Strings::movs, insn_plan::specs::Plan::after_plan, insn_plan::specs::Plan::after_commit, //
-guest_space::specs::Pending::first_write_fault, guest_space::specs::Pending::after_writes))]
 fn movs_at<L: Look>(
     m: &mut Machine,
     i: &Insn,
@@ -214,8 +199,6 @@ impl InsnRow for Movs {
 
 // The row of CMPS at a width and an address size.
 #[inline(always)]
-#[tactic(auto, unfolding(crate::specs::Strings::cmps, insn_plan::specs::Plan::after_plan, insn_plan::specs::Plan::after_commit, //
-guest_space::specs::Pending::first_write_fault, guest_space::specs::Pending::after_writes))]
 fn cmps_at<L: Look>(
     m: &mut Machine,
     i: &Insn,
@@ -260,8 +243,6 @@ impl InsnRow for Cmps {
 
 // The row of STOS at a width and an address size.
 #[inline(always)]
-#[tactic(auto, unfolding(crate::specs::Strings::stos, insn_plan::specs::Plan::after_plan, insn_plan::specs::Plan::after_commit, //
-guest_space::specs::Pending::first_write_fault, guest_space::specs::Pending::after_writes))]
 fn stos_at<L: Look>(
     m: &mut Machine,
     i: &Insn,
@@ -302,9 +283,6 @@ impl InsnRow for Stos {
 
 // The row of LODS at a width and an address size.
 #[inline(always)]
-#[tactic(auto, unfolding(crate::specs::Strings::lods, insn_plan::specs::Plan::after_plan, insn_plan::specs::Plan::after_commit, //
-guest_space::specs::Pending::first_write_fault, guest_space::specs::Pending::after_writes, client_world::specs::General::with_general, //
-insn_plan::specs::Registers::with_register))]
 fn lods_at<L: Look>(
     m: &mut Machine,
     i: &Insn,
@@ -345,8 +323,6 @@ impl InsnRow for Lods {
 
 // The row of SCAS at a width and an address size.
 #[inline(always)]
-#[tactic(auto, unfolding(crate::specs::Strings::scas, insn_plan::specs::Plan::after_plan, insn_plan::specs::Plan::after_commit, //
-guest_space::specs::Pending::first_write_fault, guest_space::specs::Pending::after_writes))]
 fn scas_at<L: Look>(
     m: &mut Machine,
     i: &Insn,

@@ -1,19 +1,13 @@
 // What the instructions of this crate access. Each function has a pattern of accesses, which is that of all the rows that its contract
 // names.
 ghost use Rattle.std.specs.Prelude.{◌≡◌, ◌<◌, ◌+◌, ◌++◌, ◌∷◌, [], true, MatchOption, IsTrue, None, Some, ℕ, length};
-ghost use Rattle.exec_core.specs.Arithmetic.{Formula, SingleFormula, binary, compare, unary};
-ghost use Rattle.exec_core.specs.Bits.{setcc, bit_test, bit_change, bit_scan};
-ghost use Rattle.exec_core.specs.Decimal.{aad, aam};
-ghost use Rattle.exec_core.specs.Dispatch.{IsCore, core_row};
-ghost use Rattle.exec_core.specs.Moves.{mov, movzx, movsx, xchg, lea, xlat};
-ghost use Rattle.exec_core.specs.Products.{Product, multiply, multiply_two, multiply_three, imul, divide};
-ghost use Rattle.exec_core.specs.Shifts.{DoubleFormula, shift, shift_in};
-ghost use Rattle.exec_core.specs.Stacks.{push, pop, pusha, popa};
-ghost use Rattle.exec_core.specs.Strings.{is_over, source_element, destination_element, movs, cmps, stos, lods, scas};
+ghost use Rattle.exec_core.specs.{Arithmetic.{Formula, SingleFormula, binary, compare, unary}, Bits.{setcc, bit_test, bit_change}};
+ghost use Rattle.exec_core.specs.{Bits.{bit_scan}, Decimal.{aad, aam}, Dispatch.{IsCore, core_row}, Moves.{mov, movzx, movsx, xchg, lea}};
+ghost use Rattle.exec_core.specs.{Moves.{xlat}, Products.{Product, multiply, multiply_two, multiply_three, imul, divide}};
+ghost use Rattle.exec_core.specs.{Shifts.{DoubleFormula, shift, shift_in}, Stacks.{push, pop, pusha, popa}, Strings.{is_over}};
+ghost use Rattle.exec_core.specs.Strings.{source_element, destination_element, movs, cmps, stos, lods, scas};
 ghost use Rattle.insn_forms.specs.Kinds.{is_width, has_good_number};
-ghost use Rattle.insn_plan.specs.Accesses.{Notes, and_read, with_next_eip, touches};
-ghost use Rattle.insn_plan.specs.Act.{value_of};
-ghost use Rattle.insn_plan.specs.Registers.{cut_address};
+ghost use Rattle.insn_plan.specs.{Accesses.{Notes, and_read, with_next_eip, touches}, Act.{value_of}, Registers.{cut_address}};
 ghost use Rattle.insn_plan.specs.Stack.{regs_after_pops};
 ghost use Rattle.guest_space.specs.Pending.{byte_count};
 ghost use Rattle.client_world.specs.declared.segments.SegReg.TheVariants.{Es};

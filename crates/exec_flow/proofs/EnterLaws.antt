@@ -1,20 +1,13 @@
 -- What ENTER accesses.
 use Rattle.std.proofs.Common.{◌≡◌, ◌≢◌, ℕ, zero, suc, ◌+◌, ◌-◌, ◌%◌, ◌<◌, ◌≤◌, List, refl, ap, sym, ◌∙◌, Ok, Err, None, Some, arith}
-use Rattle.std.specs.Prelude.{Bool, true, false, nat_eq, if◌then◌else◌}
-use Rattle.std.specs.declared.option.Option.{Option}
-use Rattle.std.specs.declared.result.Result.{Result}
 use Rattle.std.proofs.lemmas.Bool.Decides.{nat_tests}
-use Rattle.client_world.specs.declared.faults.Event.{Event}
-use Rattle.client_world.specs.World.{World}
+use Rattle.std.specs.{Prelude.{Bool, true, false, nat_eq, if◌then◌else◌}, declared.option.Option.{Option}, declared.result.Result.{Result}}
+use Rattle.client_world.specs.{declared.faults.Event.{Event}, World.{World}}
 use Rattle.insn_forms.specs.declared.insn.Insn.{Insn}
-use Rattle.insn_plan.specs.declared.accesses.Access.{Access}
-use Rattle.insn_plan.specs.Accesses.{accesses_after, and_read, and_push, and_writes, esp_down}
-use Rattle.insn_plan.specs.Act.{Act, Pending, done, unchanged, value_of}
-use Rattle.insn_plan.specs.Registers.{register}
-use Rattle.insn_plan.specs.Stack.{with_pushed_number, stack_pointer}
+use Rattle.insn_plan.specs.{declared.accesses.Access.{Access}, Accesses.{accesses_after, and_read, and_push, and_writes, esp_down}}
+use Rattle.insn_plan.specs.{Act.{Act, Pending, done, unchanged, value_of}, Registers.{register}, Stack.{with_pushed_number, stack_pointer}}
 use Rattle.insn_plan.proofs.AccessLists.{pushed_accesses, pushed_esp}
-use Rattle.exec_flow.specs.EnterAccesses.{frame_input, frame_reads, and_pushes}
-use Rattle.exec_flow.specs.Frames.{push_saved_frames, with_new_frame, enter}
+use Rattle.exec_flow.specs.{EnterAccesses.{frame_input, frame_reads, and_pushes}, Frames.{push_saved_frames, with_new_frame, enter}}
 use Rattle.exec_flow.specs.Transfers.{immediate}
 
 -- ---- the loops

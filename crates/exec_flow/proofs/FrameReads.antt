@@ -1,16 +1,12 @@
 -- The reads of ENTER, one by one.
 use Rattle.std.proofs.Common.{◌≡◌, ℕ, suc, ◌+◌, refl, Ok, Err}
-use Rattle.client_world.specs.declared.faults.Event.{Event}
-use Rattle.client_world.specs.declared.segments.SegReg.TheVariants.{Ss}
-use Rattle.client_world.specs.World.{World}
+use Rattle.client_world.specs.{declared.faults.Event.{Event}, declared.segments.SegReg.TheVariants.{Ss}, World.{World}}
 use Rattle.exec_flow.specs.Frames.{saved_frame, push_saved_frames}
 use Rattle.guest_space.specs.Pending.{byte_count}
 use Rattle.insn_forms.specs.declared.insn.Insn.{Insn}
-use Rattle.insn_plan.specs.Act.{Act, Read, From, Input, Pending, value_of}
-use Rattle.insn_plan.specs.Plan.{plan_result}
-use Rattle.insn_plan.specs.Stack.{with_pushed_number}
+use Rattle.insn_plan.specs.{Act.{Act, Read, From, Input, Pending, value_of}, Plan.{plan_result}, Stack.{with_pushed_number}}
 
-planned_read : (w : World) (input : Input) (rest : ℕ → Act) (v : ℕ) → value_of w input ≡ Ok v →
+pub planned_read : (w : World) (input : Input) (rest : ℕ → Act) (v : ℕ) → value_of w input ≡ Ok v →
     plan_result w (Read input rest) ≡ plan_result w (rest v)
 planned_read w input rest v e = rw (plan_result, e) refl
 

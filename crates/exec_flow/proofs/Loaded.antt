@@ -1,19 +1,13 @@
 -- A segment register that is loaded after what else the instruction leaves.
 use Rattle.std.proofs.Common.{◌≡◌, ℕ, Ok, Err, None, Some, ap, ◌∙◌}
-use Rattle.std.specs.declared.option.Option.{Option}
-use Rattle.std.specs.declared.result.Result.{Result}
-use Rattle.client_world.specs.declared.faults.Event.{Event}
-use Rattle.client_world.specs.declared.faults.Event.TheVariants.{Fault as fault}
-use Rattle.client_world.specs.declared.faults.Fault.{Fault}
-use Rattle.client_world.specs.declared.registers.Regs.{Regs}
-use Rattle.client_world.specs.declared.segments.SegReg.{SegReg}
+use Rattle.std.specs.{declared.option.Option.{Option}, declared.result.Result.{Result}}
+use Rattle.client_world.specs.{declared.faults.Event.{Event}, declared.faults.Event.TheVariants.{Fault as fault}}
+use Rattle.client_world.specs.{declared.faults.Fault.{Fault}, declared.registers.Regs.{Regs}, declared.segments.SegReg.{SegReg}}
 use Rattle.client_world.specs.Segments.{with_selector}
-use Rattle.guest_space.specs.Pending.{first_write_fault, after_writes}
-use Rattle.guest_space.specs.Registers.{with_registers}
+use Rattle.guest_space.specs.{Pending.{first_write_fault, after_writes}, Registers.{with_registers}}
 use Rattle.host_memory.specs.View.{MachineView}
 use Rattle.insn_plan.proofs.Settled.{settled_with}
-use Rattle.insn_plan.specs.Act.{Pending, with_regs}
-use Rattle.insn_plan.specs.Plan.{after_commit, with_state}
+use Rattle.insn_plan.specs.{Act.{Pending, with_regs}, Plan.{after_commit, with_state}}
 
 granted_regs : (o : Option Fault) (v u : MachineView) →
     elim o as (λ _. Result MachineView Event) [ Some f ↦ Err (fault f) | None ↦ Ok v ] ≡ Ok u → v.world.regs ≡ u.world.regs

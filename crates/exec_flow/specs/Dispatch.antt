@@ -1,23 +1,16 @@
 -- The instructions of this crate, and what each of them does.
 use Rattle.std.specs.Prelude.{◌≡◌, ℕ, Bool, true, not}
-use Rattle.client_world.specs.declared.segments.SegReg.TheVariants as segs
-use Rattle.client_world.specs.Descriptor.{byte_limit}
-use Rattle.client_world.specs.World.{World}
-use Rattle.insn_forms.specs.declared.insn.Insn.{Insn}
-use Rattle.insn_forms.specs.declared.insn.Op.{Op}
-use Rattle.insn_forms.specs.declared.insn.Op.TheVariants as ops
-use Rattle.insn_forms.specs.declared.insn.Operand.{Operand}
-use Rattle.insn_forms.specs.Kinds.{is_of_core, operation}
+use Rattle.client_world.specs.{Descriptor.{byte_limit}, World.{World}}
+use Rattle.insn_forms.specs.{declared.insn.Insn.{Insn}, declared.insn.Op.{Op}, declared.insn.Operand.{Operand}, Kinds.{is_of_core}}
+use Rattle.insn_forms.specs.Kinds.{operation}
 use Rattle.insn_plan.specs.Act.{Act, done, unchanged}
-use Rattle.exec_flow.specs.FarTransfers.{jump_far, call_far, retf, iret}
-use Rattle.exec_flow.specs.FlagImages.{pushf, popf, cli, sti}
-use Rattle.exec_flow.specs.Frames.{enter, leave, bound}
-use Rattle.exec_flow.specs.Interrupts.{int, int3, into}
-use Rattle.exec_flow.specs.Ports.{input, output}
-use Rattle.exec_flow.specs.Questions.{verify, load_from_descriptor, arpl, is_readable, is_writable_row, access_rights}
-use Rattle.exec_flow.specs.Raising.{invalid_opcode, privileged, escape, load_table}
-use Rattle.exec_flow.specs.Segments.{mov_segment, push_segment, pop_segment, load_pointer}
-use Rattle.exec_flow.specs.Transfers.{jcc, jcxz, loop_while, jmp, call, ret}
+use Rattle.exec_flow.specs.{FarTransfers.{jump_far, call_far, retf, iret}, FlagImages.{pushf, popf, cli, sti}, Frames.{enter, leave, bound}}
+use Rattle.exec_flow.specs.{Interrupts.{int, int3, into}, Ports.{input, output}, Questions.{verify, load_from_descriptor, arpl}}
+use Rattle.exec_flow.specs.{Questions.{is_readable, is_writable_row, access_rights}, Raising.{invalid_opcode, privileged, escape}}
+use Rattle.exec_flow.specs.{Raising.{load_table}, Segments.{mov_segment, push_segment, pop_segment, load_pointer}, Transfers.{jcc, jcxz}}
+use Rattle.exec_flow.specs.Transfers.{loop_while, jmp, call, ret}
+use Rattle.client_world.specs.declared.segments.SegReg.TheVariants as segs
+use Rattle.insn_forms.specs.declared.insn.Op.TheVariants as ops
 
 -- the instruction is one of this crate, by the table of operations: it is none of exec_core
 unfoldable pub is_flow : Op → Operand → Operand → Bool

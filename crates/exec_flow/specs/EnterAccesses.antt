@@ -1,13 +1,10 @@
 -- What ENTER accesses: the saved frame pointers that it reads, and its pushes, whatever their numbers are. The words of two loops; no
 -- public contract cites them, and what ENTER accesses follows from its row. Source: own.
 use Rattle.std.specs.Prelude.{ℕ, zero, suc, ◌+◌, List, Option, Ok, Err, None, Some}
-use Rattle.client_world.specs.declared.segments.SegReg.TheVariants.{Ss}
-use Rattle.client_world.specs.World.{World}
+use Rattle.client_world.specs.{declared.segments.SegReg.TheVariants.{Ss}, World.{World}}
 use Rattle.guest_space.specs.Pending.{byte_count}
 use Rattle.insn_forms.specs.declared.insn.Insn.{Insn}
-use Rattle.insn_plan.specs.declared.accesses.Access.{Access}
-use Rattle.insn_plan.specs.Accesses.{and_read, and_push, esp_down}
-use Rattle.insn_plan.specs.Act.{Input, From, value_of}
+use Rattle.insn_plan.specs.{declared.accesses.Access.{Access}, Accesses.{and_read, and_push, esp_down}, Act.{Input, From, value_of}}
 use Rattle.exec_flow.specs.Frames.{saved_frame}
 
 -- the frame pointer that was saved for a level

@@ -2,17 +2,13 @@
 -- Source: 80386 Programmer's Reference Manual, ch. 17, JMP, CALL, RET, IRET; that a far jump or call takes a selector of any privilege
 -- level and stores level 3 is own.
 use Rattle.std.specs.Prelude.{ℕ, Bool, false, true}
-use Rattle.client_world.specs.declared.registers.Mode.TheVariants.{Real, Protected}
-use Rattle.client_world.specs.Loading.{transfer_fault}
-use Rattle.client_world.specs.Registers.{low_half}
-use Rattle.client_world.specs.Selector.{client_selector}
-use Rattle.client_world.specs.World.{World}
+use Rattle.client_world.specs.{declared.registers.Mode.TheVariants.{Real, Protected}, Loading.{transfer_fault}, Registers.{low_half}}
+use Rattle.client_world.specs.{Selector.{client_selector}, World.{World}}
 use Rattle.insn_forms.specs.declared.insn.Insn.{Insn}
-use Rattle.insn_plan.specs.Act.{Act, ◌>>=◌, Pending, done, unchanged, unless_fault, with_regs}
-use Rattle.insn_plan.specs.Stack.{with_pushed_number, stack_item, regs_after_pops}
-use Rattle.exec_flow.specs.FlagImages.{with_popped_flags}
-use Rattle.exec_flow.specs.Pointers.{pointer, pointer_selector, pointer_offset}
-use Rattle.exec_flow.specs.Transfers.{immediate, regs_after_drop}
+use Rattle.insn_plan.specs.{Act.{Act, ◌>>=◌, Pending, done, unchanged, unless_fault, with_regs}, Stack.{with_pushed_number, stack_item}}
+use Rattle.insn_plan.specs.Stack.{regs_after_pops}
+use Rattle.exec_flow.specs.{FlagImages.{with_popped_flags}, Pointers.{pointer, pointer_selector, pointer_offset}, Transfers.{immediate}}
+use Rattle.exec_flow.specs.Transfers.{regs_after_drop}
 
 -- what CS holds after a transfer to a selector: in protected mode with privilege level 3
 unfoldable pub code_selector : World → ℕ → ℕ

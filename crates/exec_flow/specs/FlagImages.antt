@@ -2,13 +2,10 @@
 -- Source: 80386 Programmer's Reference Manual, ch. 17, PUSHF, POPF, CLI, STI; what takes the place of IF is DPMI 0.9, "Interrupt State",
 -- and own.
 use Rattle.std.specs.Prelude.{ℕ, Bool, true, false}
-use Rattle.client_world.specs.declared.registers.Mode.TheVariants.{Real, Protected}
-use Rattle.client_world.specs.declared.registers.TheConstants.{INTERRUPT_BIT}
-use Rattle.client_world.specs.Registers.{flags_image, flags_of_image, has_bit, low_half}
-use Rattle.client_world.specs.World.{World}
+use Rattle.client_world.specs.{declared.registers.Mode.TheVariants.{Real, Protected}, declared.registers.TheConstants.{INTERRUPT_BIT}}
+use Rattle.client_world.specs.{Registers.{flags_image, flags_of_image, has_bit, low_half}, World.{World}}
 use Rattle.insn_forms.specs.declared.insn.Insn.{Insn}
-use Rattle.insn_plan.specs.Act.{Act, ◌>>=◌, Pending, done, unchanged, with_regs}
-use Rattle.insn_plan.specs.Stack.{with_pushed_number, stack_item, regs_after_pops}
+use Rattle.insn_plan.specs.{Act.{Act, ◌>>=◌, Pending, done, unchanged, with_regs}, Stack.{with_pushed_number, stack_item, regs_after_pops}}
 
 -- IF as PUSHF shows it: in real mode the virtual flag, in protected mode 1
 abbrev pub visible_interrupt_flag : World → Bool

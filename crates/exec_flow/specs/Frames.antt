@@ -2,21 +2,15 @@
 -- Source: 80386 Programmer's Reference Manual, ch. 17, ENTER, LEAVE, BOUND; that ENTER reads all saved frame pointers before it writes,
 -- and that BOUND's pair is one access and its upper bound a plain comparison, are own.
 use Rattle.std.specs.Prelude.{ℕ, zero, suc, ◌+◌, ◌-◌, ◌*◌, ◌/◌, ◌%◌, ◌^◌, Bool, ◌||◌, nat_eq, nat_lt, if◌then◌else◌}
-use Rattle.client_world.specs.declared.faults.TheConstants.{BOUNDS_CHECK}
-use Rattle.client_world.specs.declared.registers.Regs.{Regs}
-use Rattle.client_world.specs.declared.segments.SegReg.TheVariants.{Ss}
-use Rattle.client_world.specs.Access.{fault_with}
-use Rattle.client_world.specs.Registers.{low_half}
-use Rattle.client_world.specs.World.{World}
+use Rattle.client_world.specs.{declared.faults.TheConstants.{BOUNDS_CHECK}, declared.registers.Regs.{Regs}}
+use Rattle.client_world.specs.{declared.segments.SegReg.TheVariants.{Ss}, Access.{fault_with}, Registers.{low_half}, World.{World}}
 use Rattle.cpu_values.specs.Word.{cut}
 use Rattle.guest_space.specs.Pending.{byte_count}
 use Rattle.insn_forms.specs.declared.insn.Insn.{Insn}
-use Rattle.insn_plan.specs.Act.{Act, ◌>>=◌, From, Pending, done, raise, unchanged, with_regs}
-use Rattle.insn_plan.specs.Operands.{source}
-use Rattle.insn_plan.specs.Registers.{register, with_register, cut_address}
-use Rattle.insn_plan.specs.Stack.{has_big_stack, with_pushed_number, regs_after_pops, stack_pointer, with_stack_pointer}
-use Rattle.exec_flow.specs.Pointers.{memory_bytes}
-use Rattle.exec_flow.specs.Transfers.{at_operand_size, immediate}
+use Rattle.insn_plan.specs.{Act.{Act, ◌>>=◌, From, Pending, done, raise, unchanged, with_regs}, Operands.{source}, Registers.{register}}
+use Rattle.insn_plan.specs.{Registers.{with_register, cut_address}, Stack.{has_big_stack, with_pushed_number, regs_after_pops}}
+use Rattle.insn_plan.specs.Stack.{stack_pointer, with_stack_pointer}
+use Rattle.exec_flow.specs.{Pointers.{memory_bytes}, Transfers.{at_operand_size, immediate}}
 
 -- where the frame pointer of a level was saved: that many items below (E)BP
 abbrev pub saved_frame : World → Insn → ℕ → ℕ

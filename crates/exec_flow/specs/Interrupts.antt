@@ -1,16 +1,11 @@
 -- Software interrupts: INT, INT 3, INTO. By themselves they change nothing: the event names the number and the instruction's length. And
 -- what such an interrupt pushes.
 -- Source: 80386 Programmer's Reference Manual, ch. 17, INT/INTO; that INT 3 and INTO are the client's interrupts 3 and 4 is own.
-use Rattle.std.specs.Prelude.{ℕ, None, Some, if◌then◌else◌}
-use Rattle.std.specs.declared.option.Option.{Option}
-use Rattle.client_world.specs.declared.registers.Mode.TheVariants.{Real, Protected}
-use Rattle.client_world.specs.declared.registers.Width.{Width}
-use Rattle.client_world.specs.declared.registers.Width.TheVariants.{Sixteen, ThirtyTwo}
-use Rattle.client_world.specs.Registers.{flags_image, low_byte}
-use Rattle.client_world.specs.World.{World}
+use Rattle.std.specs.{Prelude.{ℕ, None, Some, if◌then◌else◌}, declared.option.Option.{Option}}
+use Rattle.client_world.specs.{declared.registers.Mode.TheVariants.{Real, Protected}, declared.registers.Width.{Width}}
+use Rattle.client_world.specs.{declared.registers.Width.TheVariants.{Sixteen, ThirtyTwo}, Registers.{flags_image, low_byte}, World.{World}}
 use Rattle.insn_forms.specs.declared.insn.Insn.{Insn}
-use Rattle.insn_plan.specs.Act.{Act, End, Interrupt, Pending, done, unchanged}
-use Rattle.insn_plan.specs.Stack.{with_pushed_number}
+use Rattle.insn_plan.specs.{Act.{Act, End, Interrupt, Pending, done, unchanged}, Stack.{with_pushed_number}}
 use Rattle.exec_flow.specs.Transfers.{immediate}
 
 -- INT

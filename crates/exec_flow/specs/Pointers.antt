@@ -1,13 +1,9 @@
 -- Far pointers: an offset of the operand size, and after it a selector. One in memory is read in one access.
 -- Source: 80386 Programmer's Reference Manual, ch. 2, "Pointer", and ch. 17, JMP, CALL and LES; that it is one access is own.
 use Rattle.std.specs.Prelude.{ℕ, ◌+◌, ◌*◌, ◌/◌, ◌%◌, ◌^◌, nat_eq, if◌then◌else◌}
-use Rattle.client_world.specs.Registers.{low_half}
-use Rattle.client_world.specs.World.{World}
-use Rattle.insn_forms.specs.declared.insn.Insn.{Insn}
-use Rattle.insn_forms.specs.declared.insn.Operand.{Operand}
-use Rattle.insn_forms.specs.declared.insn.Operand.TheVariants.{Mem, Far}
-use Rattle.insn_plan.specs.Act.{Given, From, Input}
-use Rattle.insn_plan.specs.Registers.{offset_of}
+use Rattle.client_world.specs.{Registers.{low_half}, World.{World}}
+use Rattle.insn_forms.specs.{declared.insn.Insn.{Insn}, declared.insn.Operand.{Operand}, declared.insn.Operand.TheVariants.{Mem, Far}}
+use Rattle.insn_plan.specs.{Act.{Given, From, Input}, Registers.{offset_of}}
 
 -- an operand in memory read as n bytes; another operand has none
 unfoldable pub memory_bytes : World → Insn → ℕ → Operand → Input

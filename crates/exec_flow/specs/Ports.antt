@@ -3,8 +3,7 @@
 use Rattle.std.specs.Prelude.{◌-◌, ◌^◌}
 use Rattle.client_world.specs.World.{World}
 use Rattle.insn_forms.specs.declared.insn.Insn.{Insn}
-use Rattle.insn_plan.specs.Act.{Act, done, unchanged}
-use Rattle.insn_plan.specs.Operands.{put_operand}
+use Rattle.insn_plan.specs.{Act.{Act, done, unchanged}, Operands.{put_operand}}
 
 -- IN: the accumulator becomes all ones
 unfoldable pub input : World → Insn → Act

@@ -2,15 +2,10 @@
 -- Source: 80386 Programmer's Reference Manual, ch. 17, each under its name; the mask of LAR, and that descriptors which aren't present
 -- count as others do, are own.
 use Rattle.std.specs.Prelude.{ℕ, ◌+◌, ◌-◌, ◌*◌, ◌/◌, Bool, true, false, None, Some, nat_lt, if◌then◌else◌}
-use Rattle.client_world.specs.declared.descriptors.Desc.{Desc}
-use Rattle.client_world.specs.declared.registers.Flags.{Flags}
-use Rattle.client_world.specs.Descriptor.{access_byte, flags_byte, is_writable}
-use Rattle.client_world.specs.Registers.{low_half}
-use Rattle.client_world.specs.Selector.{Row, row_of_selector, privilege_of}
-use Rattle.client_world.specs.World.{World}
+use Rattle.client_world.specs.{declared.descriptors.Desc.{Desc}, declared.registers.Flags.{Flags}, Descriptor.{access_byte, flags_byte}}
+use Rattle.client_world.specs.{Descriptor.{is_writable}, Registers.{low_half}, Selector.{Row, row_of_selector, privilege_of}, World.{World}}
 use Rattle.insn_forms.specs.declared.insn.Insn.{Insn}
-use Rattle.insn_plan.specs.Act.{Act, ◌>>=◌, done, with_flags}
-use Rattle.insn_plan.specs.Operands.{source, put_operand}
+use Rattle.insn_plan.specs.{Act.{Act, ◌>>=◌, done, with_flags}, Operands.{source, put_operand}}
 use Rattle.exec_flow.specs.Raising.{in_protected}
 
 -- the flags with another ZF

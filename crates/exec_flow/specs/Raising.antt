@@ -2,9 +2,7 @@
 -- Source: 80386 Programmer's Reference Manual, ch. 17, each under its name, and ch. 15, "Sensitive Instructions"; that SLDT, STR, SGDT,
 -- SIDT and SMSW are invalid is own.
 use Rattle.client_world.specs.declared.faults.TheConstants.{INVALID_OPCODE, COPROCESSOR_NOT_AVAILABLE, GENERAL_PROTECTION}
-use Rattle.client_world.specs.declared.registers.Mode.TheVariants.{Real, Protected}
-use Rattle.client_world.specs.Access.{fault_with}
-use Rattle.client_world.specs.World.{World}
+use Rattle.client_world.specs.{declared.registers.Mode.TheVariants.{Real, Protected}, Access.{fault_with}, World.{World}}
 use Rattle.insn_plan.specs.Act.{Act, raise}
 
 -- SLDT, STR, SGDT, SIDT, SMSW

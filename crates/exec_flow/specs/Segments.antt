@@ -2,15 +2,10 @@
 -- Source: 80386 Programmer's Reference Manual, ch. 17, MOV, PUSH, POP, and LGS/LSS/LDS/LES/LFS; that MOV to a register of 32 bits clears
 -- its upper half, and PUSH of 32 bits pushes zeros there, is own.
 use Rattle.std.specs.Prelude.{ℕ}
-use Rattle.client_world.specs.declared.segments.SegReg.{SegReg}
-use Rattle.client_world.specs.Loading.{register_fault}
-use Rattle.client_world.specs.Registers.{low_half}
-use Rattle.client_world.specs.Segments.{with_selector}
+use Rattle.client_world.specs.{declared.segments.SegReg.{SegReg}, Loading.{register_fault}, Registers.{low_half}, Segments.{with_selector}}
 use Rattle.client_world.specs.World.{World}
-use Rattle.insn_forms.specs.declared.insn.Insn.{Insn}
-use Rattle.insn_forms.specs.declared.insn.Operand.TheVariants.{Seg}
-use Rattle.insn_plan.specs.Act.{Act, ◌>>=◌, Pending, done, unchanged, unless_fault, with_regs}
-use Rattle.insn_plan.specs.Operands.{source, put_operand}
+use Rattle.insn_forms.specs.{declared.insn.Insn.{Insn}, declared.insn.Operand.TheVariants.{Seg}}
+use Rattle.insn_plan.specs.{Act.{Act, ◌>>=◌, Pending, done, unchanged, unless_fault, with_regs}, Operands.{source, put_operand}}
 use Rattle.insn_plan.specs.Stack.{with_pushed_number, stack_item, regs_after_pops}
 use Rattle.exec_flow.specs.Pointers.{pointer, pointer_selector, pointer_offset}
 

@@ -1,19 +1,11 @@
 -- Near transfers: Jcc, JCXZ, LOOP, LOOPE, LOOPNE, JMP, CALL, RET. EIP already points after the instruction.
 -- Source: 80386 Programmer's Reference Manual, ch. 17, each under its name; that a loop whose jump faults keeps its counter is own.
 use Rattle.std.specs.Prelude.{ℕ, ◌+◌, ◌-◌, ◌%◌, ◌^◌, Bool, false, not, ◌&&◌, nat_eq, if◌then◌else◌}
-use Rattle.client_world.specs.declared.registers.Regs.{Regs}
-use Rattle.client_world.specs.Loading.{transfer_fault}
-use Rattle.client_world.specs.Registers.{low_half}
-use Rattle.client_world.specs.World.{World}
-use Rattle.insn_forms.specs.declared.insn.Insn.{Insn}
-use Rattle.insn_forms.specs.declared.insn.Operand.{Operand}
-use Rattle.insn_forms.specs.declared.insn.Operand.TheVariants.{Imm}
-use Rattle.insn_plan.specs.Act.{Act, ◌>>=◌, Given, Input, Pending, done, unchanged, unless_fault, with_regs}
-use Rattle.insn_plan.specs.Conditions.{condition}
-use Rattle.insn_plan.specs.Counter.{counter}
-use Rattle.insn_plan.specs.Operands.{source}
-use Rattle.insn_plan.specs.Registers.{cut_address, with_address}
-use Rattle.insn_plan.specs.Stack.{with_pushed_number, stack_item, regs_after_pops, stack_pointer_up, with_stack_pointer}
+use Rattle.client_world.specs.{declared.registers.Regs.{Regs}, Loading.{transfer_fault}, Registers.{low_half}, World.{World}}
+use Rattle.insn_forms.specs.{declared.insn.Insn.{Insn}, declared.insn.Operand.{Operand}, declared.insn.Operand.TheVariants.{Imm}}
+use Rattle.insn_plan.specs.{Act.{Act, ◌>>=◌, Given, Input, Pending, done, unchanged, unless_fault, with_regs}, Conditions.{condition}}
+use Rattle.insn_plan.specs.{Counter.{counter}, Operands.{source}, Registers.{cut_address, with_address}, Stack.{with_pushed_number}}
+use Rattle.insn_plan.specs.Stack.{stack_item, regs_after_pops, stack_pointer_up, with_stack_pointer}
 
 -- the target of a near transfer, before it is cut: a distance from the next instruction, or the number of an operand
 unfoldable pub target : World → Insn → Operand → Input

@@ -1,4 +1,10 @@
 // Far transfers.
+#![tactic(auto, unfolding(crate::specs::FarTransfers::code_selector, crate::specs::FarTransfers::jump_far, //
+crate::specs::FarTransfers::far_transfer, crate::specs::FarTransfers::call_far, crate::specs::FarTransfers::far_frame_pop, //
+client_world::specs::General::with_general, insn_plan::specs::Stack::regs_after_pops, crate::specs::FarTransfers::retf, //
+crate::specs::FarTransfers::interrupt_frame_pop, crate::specs::FarTransfers::iret, insn_plan::specs::Plan::after_plan, //
+insn_plan::specs::Plan::after_commit, guest_space::specs::Pending::first_write_fault, guest_space::specs::Pending::after_writes))]
+
 ghost use Rattle.std.specs.Prelude.{◌≡◌, MatchResult, OnOk, IfErr, None, Some, Ok, Err, is_ok};
 ghost use Rattle.client_world.specs.Loading.{transfer_fault};
 ghost use Rattle.exec_flow.specs.FarTransfers.{call_far, code_selector, far_frame_pop, pending_of_interrupt_frame, interrupt_frame_pop};
@@ -19,7 +25,6 @@ use insn_plan::{Next, Raised, check_transfer, popped_esp, stack_item};
 
 /// What CS holds after a transfer to a selector: in protected mode with privilege level 3. Source: own.
 #[inline(always)]
-#[tactic(auto, unfolding(crate::specs::FarTransfers::code_selector))]
 pub fn code_selector(m: &Machine, sel: u16) -> u16
     ensures { result ≡ code_selector m.now.world sel }
 {
@@ -56,9 +61,6 @@ fn far_transfer(m: &mut Machine, sel: u16, ip: u32, ret: bool) -> Result<(), Fau
 
 /// JMP far. Source: 80386 Programmer's Reference Manual, ch. 17.
 #[inline(never)]
-#[tactic(auto, unfolding(crate::specs::FarTransfers::jump_far, crate::specs::FarTransfers::far_transfer, //
-insn_plan::specs::Plan::after_plan, insn_plan::specs::Plan::after_commit, guest_space::specs::Pending::first_write_fault, //
-guest_space::specs::Pending::after_writes))]
 pub(crate) fn jump_far(m: &mut Machine, i: &Insn) -> Result<(), Raised>
     ensures { CarriesOut m.old m.new result (jump_far m.old.world i.now) }
 {
@@ -69,8 +71,6 @@ pub(crate) fn jump_far(m: &mut Machine, i: &Insn) -> Result<(), Raised>
 
 /// CALL far. Source: 80386 Programmer's Reference Manual, ch. 17.
 #[inline(never)]
-#[tactic(auto, unfolding(crate::specs::FarTransfers::call_far, crate::specs::FarTransfers::far_transfer, //
-insn_plan::specs::Plan::after_plan))]
 pub(crate) fn call_far(m: &mut Machine, i: &Insn) -> Result<(), Raised>
     ensures { CarriesOut m.old m.new result (call_far m.old.world i.now) }
 {
@@ -92,9 +92,6 @@ pub(crate) fn call_far(m: &mut Machine, i: &Insn) -> Result<(), Raised>
 /// Pops the frame of a far return, in items of n bits: the instruction pointer and CS; and drops a number of bytes after it. Or gives the
 /// event, which changes nothing. Source: 80386 Programmer's Reference Manual, ch. 17, RET.
 #[inline(always)]
-#[tactic(auto, unfolding(crate::specs::FarTransfers::far_frame_pop, crate::specs::FarTransfers::far_transfer, //
-insn_plan::specs::Plan::after_plan, insn_plan::specs::Plan::after_commit, guest_space::specs::Pending::first_write_fault, //
-guest_space::specs::Pending::after_writes, client_world::specs::General::with_general, insn_plan::specs::Stack::regs_after_pops))]
 pub fn pop_far_frame(m: &mut Machine, bits: u8, bytes: u32) -> Result<(), Raised>
     ensures { CarriesOut m.old m.new result (far_frame_pop m.old.world bits bytes) }
 {
@@ -108,7 +105,6 @@ pub fn pop_far_frame(m: &mut Machine, bits: u8, bytes: u32) -> Result<(), Raised
 
 /// RETF. Source: 80386 Programmer's Reference Manual, ch. 17, RET.
 #[inline(never)]
-#[tactic(auto, unfolding(crate::specs::FarTransfers::retf))]
 pub(crate) fn retf(m: &mut Machine, i: &Insn) -> Result<(), Raised>
     ensures { CarriesOut m.old m.new result (retf m.old.world i.now) }
 {
@@ -125,7 +121,6 @@ struct InterruptFrame {
 
 // Reads the frame at the stack's top, in items of n bits, to which a return may be made; or gives the event.
 #[inline(always)]
-#[tactic(auto, unfolding(crate::specs::FarTransfers::interrupt_frame_pop, crate::specs::FarTransfers::far_transfer))]
 fn interrupt_frame_at_top(m: &Machine, bits: u8) -> Result<InterruptFrame, Raised>
     ensures { MatchResult result
         (λ frame. plan_result m.now.world (interrupt_frame_pop m.now.world bits)
@@ -163,7 +158,6 @@ pub fn pop_frame(m: &mut Machine, bits: u8) -> Result<(), Raised>
 
 /// IRET. Source: 80386 Programmer's Reference Manual, ch. 17.
 #[inline(never)]
-#[tactic(auto, unfolding(crate::specs::FarTransfers::iret))]
 pub(crate) fn iret(m: &mut Machine, i: &Insn) -> Result<(), Raised>
     ensures { CarriesOut m.old m.new result (iret m.old.world i.now) }
 {

@@ -1,4 +1,9 @@
 // Flags images on the stack, and the virtual interrupt flag.
+#![tactic(auto, unfolding(crate::specs::FlagImages::pushf, crate::specs::FlagImages::popf, crate::specs::FlagImages::with_popped_flags, //
+client_world::specs::General::with_general, insn_plan::specs::Stack::regs_after_pops, crate::specs::FlagImages::cli, //
+crate::specs::FlagImages::sti, insn_plan::specs::Plan::after_plan, insn_plan::specs::Plan::after_commit, //
+guest_space::specs::Pending::first_write_fault, guest_space::specs::Pending::after_writes))]
+
 ghost use Rattle.std.specs.Prelude.{◌≡◌};
 ghost use Rattle.client_world.specs.Registers.{flags_of_image, low_half};
 ghost use Rattle.exec_flow.specs.FlagImages.{cli, popf, vif_after_pop, pushf, visible_interrupt_flag, sti};
@@ -23,7 +28,6 @@ fn visible_interrupt_flag(m: &Machine) -> bool
 
 /// PUSHF. Source: 80386 Programmer's Reference Manual, ch. 17; what IF shows is own.
 #[inline(never)]
-#[tactic(auto, unfolding(crate::specs::FlagImages::pushf, insn_plan::specs::Plan::after_plan))]
 pub(crate) fn pushf(m: &mut Machine, i: &Insn) -> Result<(), Raised>
     ensures { CarriesOut m.old m.new result (pushf m.old.world i.now) }
 {
@@ -56,9 +60,6 @@ pub(crate) fn set_popped_flags(m: &mut Machine, image: u32)
 
 /// POPF. Source: 80386 Programmer's Reference Manual, ch. 17.
 #[inline(never)]
-#[tactic(auto, unfolding(crate::specs::FlagImages::popf, crate::specs::FlagImages::with_popped_flags, insn_plan::specs::Plan::after_plan, //
-insn_plan::specs::Plan::after_commit, guest_space::specs::Pending::first_write_fault, guest_space::specs::Pending::after_writes, //
-client_world::specs::General::with_general, insn_plan::specs::Stack::regs_after_pops))]
 pub(crate) fn popf(m: &mut Machine, i: &Insn) -> Result<(), Raised>
     ensures { CarriesOut m.old m.new result (popf m.old.world i.now) }
 {
@@ -70,8 +71,6 @@ pub(crate) fn popf(m: &mut Machine, i: &Insn) -> Result<(), Raised>
 
 /// CLI. Source: DPMI 0.9, "Interrupt State".
 #[inline(never)]
-#[tactic(auto, unfolding(crate::specs::FlagImages::cli, insn_plan::specs::Plan::after_plan, insn_plan::specs::Plan::after_commit, //
-guest_space::specs::Pending::first_write_fault, guest_space::specs::Pending::after_writes))]
 pub(crate) fn cli(m: &mut Machine) -> Result<(), Raised>
     ensures { CarriesOut m.old m.new result (cli m.old.world) }
 {
@@ -81,8 +80,6 @@ pub(crate) fn cli(m: &mut Machine) -> Result<(), Raised>
 
 /// STI. Source: 80386 Programmer's Reference Manual, ch. 17.
 #[inline(never)]
-#[tactic(auto, unfolding(crate::specs::FlagImages::sti, insn_plan::specs::Plan::after_plan, insn_plan::specs::Plan::after_commit, //
-guest_space::specs::Pending::first_write_fault, guest_space::specs::Pending::after_writes))]
 pub(crate) fn sti(m: &mut Machine) -> Result<(), Raised>
     ensures { CarriesOut m.old m.new result (sti m.old.world) }
 {

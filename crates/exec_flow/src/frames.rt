@@ -1,21 +1,17 @@
 // Stack frames of procedures, and array bounds.
+#![tactic(auto, unfolding(crate::specs::Frames::with_new_frame, crate::specs::Frames::enter, crate::specs::Frames::leave, //
+client_world::specs::General::with_general, insn_plan::specs::Stack::regs_after_pops, crate::specs::Frames::bound, //
+insn_plan::specs::Plan::after_plan, insn_plan::specs::Plan::after_commit, guest_space::specs::Pending::first_write_fault, //
+guest_space::specs::Pending::after_writes))]
+
 ghost use Rattle.std.specs.Prelude.{◌≡◌, ◌+◌, ◌-◌, ◌*◌, ◌<◌, ◌≤◌, ◌^◌, length, IsTrue, MatchResult, Err};
 ghost use Rattle.cpu_values.specs.Word.{cut};
-ghost use Rattle.exec_flow.specs.Frames.{
-  saved_frame,
-  push_saved_frames,
-  with_new_frame,
-  enter,
-  leave,
-  is_less_signed,
-  bound,
-};
-ghost use Rattle.client_world.specs.declared.segments.SegReg.TheVariants.{Ss};
+ghost use Rattle.exec_flow.specs.Frames.{saved_frame, push_saved_frames, with_new_frame, enter, leave, is_less_signed, bound};
 ghost use Rattle.exec_flow.specs.Transfers.{at_operand_size};
+ghost use Rattle.client_world.specs.declared.segments.SegReg.TheVariants.{Ss};
 ghost use Rattle.guest_space.specs.Pending.{byte_count};
 ghost use Rattle.insn_forms.specs.Kinds.{is_width};
-ghost use Rattle.insn_plan.specs.Act.{Act, From, Pending, unchanged, value_of};
-ghost use Rattle.insn_plan.specs.Plan.{CarriesOut, Leaves, plan_result};
+ghost use Rattle.insn_plan.specs.{Act.{Act, From, Pending, unchanged, value_of}, Plan.{CarriesOut, Leaves, plan_result}};
 ghost use Rattle.insn_plan.specs.declared.next.TheConstants.{MAX_WRITES};
 
 use crate::pointers::memory_bytes;
@@ -67,7 +63,6 @@ fn push_frames(m: &Machine, i: &Insn, n: u8, next: &mut Next) -> Result<(), Rais
 }
 
 // Makes (E)BP the frame's place, and moves (E)SP down by the room for variables.
-#[tactic(auto, unfolding(crate::specs::Frames::with_new_frame))]
 fn make_frame(m: &Machine, i: &Insn, frame: u32, next: &mut Next)
     ensures { next.new ≡ with_new_frame m.now.world i.now frame next.old }
 {
@@ -81,7 +76,6 @@ fn make_frame(m: &Machine, i: &Insn, frame: u32, next: &mut Next)
 }
 
 // What ENTER leaves, before anything is written.
-#[tactic(auto, unfolding(crate::specs::Frames::enter))]
 fn plan_enter(m: &Machine, i: &Insn, next: &mut Next) -> Result<(), Raised>
     requires { next.old ≡ unchanged m.now.world }
     ensures { Leaves next.new result (plan_result m.now.world (enter m.now.world i.now)) }
@@ -110,9 +104,6 @@ pub(crate) fn enter(m: &mut Machine, i: &Insn) -> Result<(), Raised>
 
 /// LEAVE. Source: 80386 Programmer's Reference Manual, ch. 17.
 #[inline(never)]
-#[tactic(auto, unfolding(crate::specs::Frames::leave, insn_plan::specs::Plan::after_plan, insn_plan::specs::Plan::after_commit, //
-guest_space::specs::Pending::first_write_fault, guest_space::specs::Pending::after_writes, client_world::specs::General::with_general, //
-insn_plan::specs::Stack::regs_after_pops))]
 pub(crate) fn leave(m: &mut Machine, i: &Insn) -> Result<(), Raised>
     ensures { CarriesOut m.old m.new result (leave m.old.world i.now) }
 {
@@ -148,8 +139,6 @@ pub(crate) fn is_less_signed(width: u8, a: u64, b: u64) -> bool
 
 /// BOUND. Source: 80386 Programmer's Reference Manual, ch. 17; that the pair is one access is own.
 #[inline(never)]
-#[tactic(auto, unfolding(crate::specs::Frames::bound, insn_plan::specs::Plan::after_plan, insn_plan::specs::Plan::after_commit, //
-guest_space::specs::Pending::first_write_fault, guest_space::specs::Pending::after_writes))]
 pub(crate) fn bound(m: &mut Machine, i: &Insn) -> Result<(), Raised>
     requires { IsTrue (is_width i.now.width) }
     ensures { CarriesOut m.old m.new result (bound m.old.world i.now) }

@@ -1,9 +1,12 @@
 // Software interrupts, and what they push.
+#![tactic(auto, unfolding(crate::specs::Interrupts::int, crate::specs::Interrupts::int3, crate::specs::Interrupts::into, //
+crate::specs::Interrupts::interrupt_push, insn_plan::specs::Plan::after_plan, insn_plan::specs::Plan::after_commit, //
+guest_space::specs::Pending::first_write_fault, guest_space::specs::Pending::after_writes))]
+
 ghost use Rattle.std.specs.Prelude.{◌≡◌};
 ghost use Rattle.exec_flow.specs.Interrupts.{frame_bits, int, int3, interrupt_push, into, item_bits};
 ghost use Rattle.host_memory.specs.View.{MachineView};
-ghost use Rattle.insn_plan.specs.Act.{unchanged};
-ghost use Rattle.insn_plan.specs.Plan.{CarriesOut};
+ghost use Rattle.insn_plan.specs.{Act.{unchanged}, Plan.{CarriesOut}};
 
 use crate::transfers::immediate;
 use client_world::{Mode, Width};
@@ -13,7 +16,6 @@ use insn_plan::{Next, Raised};
 
 /// INT. Source: 80386 Programmer's Reference Manual, ch. 17, "INT/INTO".
 #[inline(never)]
-#[tactic(auto, unfolding(crate::specs::Interrupts::int, insn_plan::specs::Plan::after_plan))]
 pub(crate) fn int(i: &Insn, len: u8) -> Result<(), Raised>
     ensures { (v : MachineView) → CarriesOut v v result (int i.now len) }
 {
@@ -22,7 +24,6 @@ pub(crate) fn int(i: &Insn, len: u8) -> Result<(), Raised>
 
 /// INT 3. Source: 80386 Programmer's Reference Manual, ch. 17, INT; that it is the client's interrupt 3 is own.
 #[inline(never)]
-#[tactic(auto, unfolding(crate::specs::Interrupts::int3, insn_plan::specs::Plan::after_plan))]
 pub(crate) fn int3(len: u8) -> Result<(), Raised>
     ensures { (v : MachineView) → CarriesOut v v result (int3 len) }
 {
@@ -31,8 +32,6 @@ pub(crate) fn int3(len: u8) -> Result<(), Raised>
 
 /// INTO. Source: 80386 Programmer's Reference Manual, ch. 17, INT; that it is the client's interrupt 4 is own.
 #[inline(never)]
-#[tactic(auto, unfolding(crate::specs::Interrupts::into, insn_plan::specs::Plan::after_plan, insn_plan::specs::Plan::after_commit, //
-guest_space::specs::Pending::first_write_fault, guest_space::specs::Pending::after_writes))]
 pub(crate) fn into(m: &Machine, len: u8) -> Result<(), Raised>
     ensures { CarriesOut m.now m.now result (into m.now.world len) }
 {
@@ -65,7 +64,6 @@ pub fn frame_bits(m: &Machine) -> u8
 
 /// Pushes what a software interrupt pushes: the flags image with the virtual interrupt flag, CS and EIP.
 /// Source: 80386 Programmer's Reference Manual, ch. 17, "INT/INTO"; DPMI 0.9, "Interrupt State".
-#[tactic(auto, unfolding(crate::specs::Interrupts::interrupt_push))]
 pub fn push_interrupt_frame(m: &Machine, next: &mut Next)
     requires { next.old ≡ unchanged m.now.world }
     ensures { next.new ≡ interrupt_push m.now.world }

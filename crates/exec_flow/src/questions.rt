@@ -4,27 +4,15 @@ crate::specs::Raising::in_protected, crate::specs::Raising::invalid_opcode, insn
 insn_plan::specs::Plan::after_commit, guest_space::specs::Pending::first_write_fault, guest_space::specs::Pending::after_writes))]
 
 ghost use Rattle.std.specs.Prelude.{◌≡◌, ◌<◌, ◌^◌, true, false};
-ghost use Rattle.client_world.specs.Descriptor.{byte_limit};
-ghost use Rattle.client_world.specs.Registers.{low_half};
-ghost use Rattle.client_world.specs.Selector.{FitsRow, privilege_of, row_of_selector};
-ghost use Rattle.exec_flow.specs.Questions.{
-  with_zero,
-  is_readable,
-  is_writable_row,
-  verify,
-  access_rights,
-  load_from_descriptor,
-  arpl,
-};
-ghost use Rattle.insn_plan.specs.Act.{with_flags};
-ghost use Rattle.insn_plan.specs.Operands.{put_operand};
-ghost use Rattle.insn_plan.specs.Plan.{CarriesOut, Follows, after_commit};
+ghost use Rattle.client_world.specs.{Descriptor.{byte_limit}, Registers.{low_half}, Selector.{FitsRow, privilege_of, row_of_selector}};
+ghost use Rattle.exec_flow.specs.Questions.{with_zero, is_readable, is_writable_row, verify, access_rights, load_from_descriptor, arpl};
+ghost use Rattle.insn_plan.specs.{Act.{with_flags}, Operands.{put_operand}, Plan.{CarriesOut, Follows, after_commit}};
 
 use crate::raising::exception;
 use client_world::faults::INVALID_OPCODE;
 use client_world::selectors::privilege_of;
 use client_world::{Desc, Flags, Mode, Origin, low_half};
-use desc_table::pack;
+use desc_table::{access_byte, flags_byte};
 use guest_space::Machine;
 use insn_forms::Insn;
 use insn_plan::{Raised, put_with_flags, source};
@@ -93,13 +81,11 @@ pub(crate) fn verify_writable(m: &mut Machine, i: &Insn) -> Result<(), Raised>
 }
 
 // The access rights of a descriptor.
-#[tactic(auto, unfolding(client_world::specs::Descriptor::packed))]
 fn access_rights(d: &Desc) -> u32
     requires { d.now.limit < 2 ^ 20 }
     ensures { result ≡ access_rights d.now }
 {
-    let bytes = pack(d);
-    u32::from(bytes[5]) * 0x100 + u32::from(bytes[6]) / 0x10 * 0x10_0000
+    u32::from(access_byte(d)) * 0x100 + u32::from(flags_byte(d)) / 0x10 * 0x10_0000
 }
 
 // Puts a number into the first operand and sets ZF, or gives the fault of the write, which changes nothing.

@@ -1,7 +1,6 @@
 // Instructions that only raise an exception.
 ghost use Rattle.std.specs.Prelude.{◌≡◌};
-ghost use Rattle.client_world.specs.Access.{fault_with};
-ghost use Rattle.client_world.specs.declared.faults.Event.TheVariants.{Fault as fault};
+ghost use Rattle.client_world.specs.{Access.{fault_with}, declared.faults.Event.TheVariants.{Fault as fault}};
 ghost use Rattle.exec_flow.specs.Raising.{invalid_opcode, privileged, escape, load_table};
 ghost use Rattle.host_memory.specs.View.{MachineView};
 ghost use Rattle.insn_plan.specs.Plan.{CarriesOut};

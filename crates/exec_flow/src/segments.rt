@@ -1,13 +1,12 @@
 // Segment registers loaded and stored.
-ghost use Rattle.exec_flow.specs.Segments.{
-  mov_to_segment,
-  mov_from_segment,
-  mov_segment,
-  push_segment,
-  pop_into,
-  pop_segment,
-  load_pointer,
-};
+#![tactic(auto, unfolding(crate::specs::Segments::mov_to_segment, crate::specs::Segments::with_loaded_segment, //
+crate::specs::Segments::mov_from_segment, crate::specs::Segments::mov_segment, crate::specs::Segments::push_segment, //
+crate::specs::Segments::pop_into, client_world::specs::General::with_general, insn_plan::specs::Stack::regs_after_pops, //
+crate::specs::Segments::pop_segment, insn_plan::specs::Plan::after_plan, insn_plan::specs::Plan::after_commit, //
+guest_space::specs::Pending::first_write_fault, guest_space::specs::Pending::after_writes))]
+
+ghost use Rattle.exec_flow.specs.Segments.{mov_to_segment, mov_from_segment, mov_segment, push_segment, pop_into, pop_segment};
+ghost use Rattle.exec_flow.specs.Segments.{load_pointer};
 ghost use Rattle.insn_plan.specs.Plan.{CarriesOut};
 
 use crate::pointers::{pointer, pointer_offset, pointer_selector};
@@ -19,9 +18,6 @@ use insn_plan::{Raised, popped_esp, push_item, put_operand, source, top_item};
 
 // MOV into a segment register.
 #[inline(always)]
-#[tactic(auto, unfolding(crate::specs::Segments::mov_to_segment, crate::specs::Segments::with_loaded_segment, //
-insn_plan::specs::Plan::after_plan, insn_plan::specs::Plan::after_commit, guest_space::specs::Pending::first_write_fault, //
-guest_space::specs::Pending::after_writes))]
 fn mov_to_segment(m: &mut Machine, i: &Insn, seg: SegReg) -> Result<(), Raised>
     ensures { CarriesOut m.old m.new result (mov_to_segment m.old.world i.now seg) }
 {
@@ -32,7 +28,6 @@ fn mov_to_segment(m: &mut Machine, i: &Insn, seg: SegReg) -> Result<(), Raised>
 
 // MOV from a segment register.
 #[inline(always)]
-#[tactic(auto, unfolding(crate::specs::Segments::mov_from_segment, insn_plan::specs::Plan::after_plan))]
 fn mov_from_segment(m: &mut Machine, i: &Insn) -> Result<(), Raised>
     ensures { CarriesOut m.old m.new result (mov_from_segment m.old.world i.now) }
 {
@@ -42,7 +37,6 @@ fn mov_from_segment(m: &mut Machine, i: &Insn) -> Result<(), Raised>
 
 /// MOV with a segment register. Source: 80386 Programmer's Reference Manual, ch. 17.
 #[inline(never)]
-#[tactic(auto, unfolding(crate::specs::Segments::mov_segment))]
 pub(crate) fn mov_segment(m: &mut Machine, i: &Insn) -> Result<(), Raised>
     ensures { CarriesOut m.old m.new result (mov_segment m.old.world i.now) }
 {
@@ -58,7 +52,6 @@ pub(crate) fn mov_segment(m: &mut Machine, i: &Insn) -> Result<(), Raised>
 
 /// PUSH of a segment register. Source: 80386 Programmer's Reference Manual, ch. 17.
 #[inline(never)]
-#[tactic(auto, unfolding(crate::specs::Segments::push_segment, insn_plan::specs::Plan::after_plan))]
 pub(crate) fn push_segment(m: &mut Machine, i: &Insn) -> Result<(), Raised>
     ensures { CarriesOut m.old m.new result (push_segment m.old.world i.now) }
 {
@@ -68,9 +61,6 @@ pub(crate) fn push_segment(m: &mut Machine, i: &Insn) -> Result<(), Raised>
 
 // POP into a segment register.
 #[inline(always)]
-#[tactic(auto, unfolding(crate::specs::Segments::pop_into, crate::specs::Segments::with_loaded_segment, //
-insn_plan::specs::Plan::after_plan, insn_plan::specs::Plan::after_commit, guest_space::specs::Pending::first_write_fault, //
-guest_space::specs::Pending::after_writes, client_world::specs::General::with_general, insn_plan::specs::Stack::regs_after_pops))]
 fn pop_into(m: &mut Machine, i: &Insn, seg: SegReg) -> Result<(), Raised>
     ensures { CarriesOut m.old m.new result (pop_into m.old.world i.now seg) }
 {
@@ -84,8 +74,6 @@ fn pop_into(m: &mut Machine, i: &Insn, seg: SegReg) -> Result<(), Raised>
 
 /// POP of a segment register. Source: 80386 Programmer's Reference Manual, ch. 17.
 #[inline(never)]
-#[tactic(auto, unfolding(crate::specs::Segments::pop_segment, insn_plan::specs::Plan::after_plan, insn_plan::specs::Plan::after_commit, //
-guest_space::specs::Pending::first_write_fault, guest_space::specs::Pending::after_writes))]
 pub(crate) fn pop_segment(m: &mut Machine, i: &Insn) -> Result<(), Raised>
     ensures { CarriesOut m.old m.new result (pop_segment m.old.world i.now) }
 {

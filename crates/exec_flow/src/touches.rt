@@ -1,23 +1,14 @@
 // What the instructions of this crate access. Each function has the accesses of the row, or the rows, that its contract names.
 ghost use Rattle.std.specs.Prelude.{◌≡◌, ◌<◌, ◌≤◌, ◌+◌, false, MatchOption, MatchResult, IsTrue, None, Some, Bool, ℕ, length};
-ghost use Rattle.client_world.specs.declared.descriptors.Desc.{Desc as ADesc};
-ghost use Rattle.client_world.specs.Loading.{register_fault, transfer_fault};
-ghost use Rattle.exec_flow.specs.Dispatch.{IsFlow, flow_row};
-ghost use Rattle.exec_flow.specs.EnterAccesses.{and_pushes, frame_input, frame_reads};
-ghost use Rattle.exec_flow.specs.FarTransfers.{call_far, iret, jump_far, retf};
-ghost use Rattle.exec_flow.specs.FlagImages.{popf, pushf};
-ghost use Rattle.exec_flow.specs.Frames.{bound, enter, leave};
-ghost use Rattle.exec_flow.specs.Interrupts.{into};
-ghost use Rattle.exec_flow.specs.Pointers.{memory_bytes, pointer};
-ghost use Rattle.exec_flow.specs.Ports.{input};
-ghost use Rattle.exec_flow.specs.Questions.{arpl, load_from_descriptor, verify};
-ghost use Rattle.exec_flow.specs.Segments.{load_pointer, mov_from_segment, mov_segment, mov_to_segment, pop_into, pop_segment};
-ghost use Rattle.exec_flow.specs.Segments.{push_segment};
-ghost use Rattle.exec_flow.specs.Transfers.{at_operand_size, call, jcc, jcxz, jmp, loop_while, ret, target};
-ghost use Rattle.client_world.specs.Selector.{Row};
+ghost use Rattle.client_world.specs.{declared.descriptors.Desc.{Desc as ADesc}, Loading.{register_fault, transfer_fault}, Selector.{Row}};
+ghost use Rattle.exec_flow.specs.{Dispatch.{IsFlow, flow_row}, EnterAccesses.{and_pushes, frame_input, frame_reads}};
+ghost use Rattle.exec_flow.specs.{FarTransfers.{call_far, iret, jump_far, retf}, FlagImages.{popf, pushf}, Frames.{bound, enter, leave}};
+ghost use Rattle.exec_flow.specs.{Interrupts.{into}, Pointers.{memory_bytes, pointer}, Ports.{input}, Questions.{arpl}};
+ghost use Rattle.exec_flow.specs.{Questions.{load_from_descriptor, verify}, Segments.{load_pointer, mov_from_segment, mov_segment}};
+ghost use Rattle.exec_flow.specs.{Segments.{mov_to_segment, pop_into, pop_segment, push_segment}, Transfers.{at_operand_size, call, jcc}};
+ghost use Rattle.exec_flow.specs.Transfers.{jcxz, jmp, loop_while, ret, target};
 ghost use Rattle.insn_forms.specs.Kinds.{has_good_number, is_width};
-ghost use Rattle.insn_plan.specs.Accesses.{Notes, and_read, with_next_eip, touches};
-ghost use Rattle.insn_plan.specs.Act.{IsCount, value_of};
+ghost use Rattle.insn_plan.specs.{Accesses.{Notes, and_read, with_next_eip, touches}, Act.{IsCount, value_of}};
 
 use crate::frames::{is_less_signed, saved_frame};
 use crate::pointers::{offset_range, pointer_offset, pointer_selector, pointer_size};

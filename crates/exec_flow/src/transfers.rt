@@ -1,10 +1,15 @@
 // Near transfers.
+#![tactic(auto, unfolding(crate::specs::Transfers::target, insn_plan::specs::Act::value_of, crate::specs::Transfers::jcc, //
+crate::specs::Transfers::near_transfer, crate::specs::Transfers::jcxz, crate::specs::Transfers::loop_while, //
+client_world::specs::General::with_general, crate::specs::Transfers::jmp, crate::specs::Transfers::ret, //
+insn_plan::specs::Stack::regs_after_pops, insn_plan::specs::Plan::after_plan, insn_plan::specs::Plan::after_commit, //
+guest_space::specs::Pending::first_write_fault, guest_space::specs::Pending::after_writes))]
+
 ghost use Rattle.std.specs.Prelude.{◌≡◌, IfErr, OnOk, false};
 ghost use Rattle.client_world.specs.Loading.{transfer_fault};
 ghost use Rattle.exec_flow.specs.Transfers.{at_operand_size, call, count_down, immediate, jcc, jcxz, jmp, loop_while, ret, target};
 ghost use Rattle.guest_space.specs.Registers.{with_registers};
-ghost use Rattle.insn_plan.specs.Act.{value_of};
-ghost use Rattle.insn_plan.specs.Looks.{Clears, Shows};
+ghost use Rattle.insn_plan.specs.{Act.{value_of}, Looks.{Clears, Shows}};
 
 use crate::stack_tops::released_esp;
 use client_world::general::{ECX, ESP};
@@ -16,7 +21,6 @@ use insn_plan::{
 
 // The target of a near transfer, before it is cut.
 #[inline(always)]
-#[tactic(auto, unfolding(crate::specs::Transfers::target, insn_plan::specs::Act::value_of))]
 fn target<L: Look>(m: &mut Machine, i: &Insn) -> Result<u64, L::Missed>
     ensures value { Shows L.reported result (value_of m.old.world (target m.old.world i.now i.now.first)) }
     ensures kept { m.new ≡ m.old }
@@ -62,8 +66,6 @@ impl InsnRow for Jcc {
     ghost plan = { λ row w i. jcc w i row.condition };
 
     #[inline(always)]
-    #[tactic(auto, unfolding(crate::specs::Transfers::jcc, crate::specs::Transfers::near_transfer, insn_plan::specs::Plan::after_plan, //
-    insn_plan::specs::Plan::after_commit, guest_space::specs::Pending::first_write_fault, guest_space::specs::Pending::after_writes))]
     fn carry_out<L: Look>(self, m: &mut Machine, i: &Insn) -> Result<(), L::Missed> {
         let ip = target::<L>(m, i)?;
         if condition(self.condition, &m.registers().flags) {
@@ -81,8 +83,6 @@ impl InsnRow for Jcxz {
     ghost plan = { λ row w i. jcxz w i };
 
     #[inline(always)]
-    #[tactic(auto, unfolding(crate::specs::Transfers::jcxz, crate::specs::Transfers::near_transfer, insn_plan::specs::Plan::after_plan, //
-    insn_plan::specs::Plan::after_commit, guest_space::specs::Pending::first_write_fault, guest_space::specs::Pending::after_writes))]
     fn carry_out<L: Look>(self, m: &mut Machine, i: &Insn) -> Result<(), L::Missed> {
         let ip = target::<L>(m, i)?;
         if counter(m, i) == 0 {
@@ -110,9 +110,6 @@ impl InsnRow for Loop {
     ghost plan = { λ row w i. loop_while row.holds w i };
 
     #[inline(always)]
-    #[tactic(auto, unfolding(crate::specs::Transfers::loop_while, crate::specs::Transfers::near_transfer, //
-    insn_plan::specs::Plan::after_plan, insn_plan::specs::Plan::after_commit, guest_space::specs::Pending::first_write_fault, //
-    guest_space::specs::Pending::after_writes, client_world::specs::General::with_general))]
     fn carry_out<L: Look>(self, m: &mut Machine, i: &Insn) -> Result<(), L::Missed> {
         let ip = target::<L>(m, i)?;
         let count = count_down(m, i);
@@ -133,8 +130,6 @@ impl InsnRow for Jmp {
     ghost plan = { λ row w i. jmp w i };
 
     #[inline(always)]
-    #[tactic(auto, unfolding(crate::specs::Transfers::jmp, crate::specs::Transfers::near_transfer, insn_plan::specs::Plan::after_plan, //
-    insn_plan::specs::Plan::after_commit, guest_space::specs::Pending::first_write_fault, guest_space::specs::Pending::after_writes))]
     fn carry_out<L: Look>(self, m: &mut Machine, i: &Insn) -> Result<(), L::Missed> {
         let ip = target::<L>(m, i)?;
         near_transfer::<L>(m, i, ip)?;
@@ -181,9 +176,6 @@ impl InsnRow for Ret {
     ghost plan = { λ row w i. ret w i };
 
     #[inline(always)]
-    #[tactic(auto, unfolding(crate::specs::Transfers::ret, crate::specs::Transfers::near_transfer, insn_plan::specs::Plan::after_plan, //
-    insn_plan::specs::Plan::after_commit, guest_space::specs::Pending::first_write_fault, guest_space::specs::Pending::after_writes, //
-    client_world::specs::General::with_general, insn_plan::specs::Stack::regs_after_pops))]
     fn carry_out<L: Look>(self, m: &mut Machine, i: &Insn) -> Result<(), L::Missed> {
         let ip = look_at_top::<L>(m, i.width)?;
         let esp = released_esp(m, i.width, 1, immediate(&i.first));

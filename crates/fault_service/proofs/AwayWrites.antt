@@ -1,32 +1,21 @@
 -- Writes to places of the client change the bytes of these places, and leave the host's frames, in which none of the places lies.
 use Rattle.std.proofs.Common.{◌≡◌, ◌≢◌, ◌⊎◌, ℕ, suc, ◌+◌, ◌*◌, ◌<◌, ◌≤◌, true, List, [], ◌∷◌, length, slice_index, slice_index_or}
 use Rattle.std.proofs.Common.{slice_set, refl, sym, subst, arith, length-set, get_or-set_other, Result, Ok, Err}
-use Rattle.client_world.specs.declared.faults.Fault.{Fault}
-use Rattle.client_world.specs.declared.host_frames.TheConstants.{PAGE_SIZE, BUDGET_FRAMES, BLOCK_ROWS, BLOCK_ROW_FRAMES, BLOCK_TABLES}
-use Rattle.client_world.specs.declared.host_frames.TheConstants.{BLOCK_TABLE_FRAMES}
-use Rattle.client_world.specs.declared.memory_map.TheConstants.{DOS_SIZE}
-use Rattle.client_world.specs.declared.place.Place.{Place}
-use Rattle.client_world.specs.declared.place.Place.TheVariants.{Nothing}
-use Rattle.client_world.specs.declared.segments.FarPtr.{FarPtr}
-use Rattle.client_world.specs.declared.segments.SegReg.TheVariants.{Es}
-use Rattle.client_world.specs.Access.{access, far_access, protected_base}
+use Rattle.client_world.specs.{declared.faults.Fault.{Fault}, declared.host_frames.TheConstants.{PAGE_SIZE, BUDGET_FRAMES, BLOCK_ROWS}}
+use Rattle.client_world.specs.declared.host_frames.TheConstants.{BLOCK_ROW_FRAMES, BLOCK_TABLES, BLOCK_TABLE_FRAMES}
+use Rattle.client_world.specs.{declared.memory_map.TheConstants.{DOS_SIZE}, declared.place.Place.{Place}}
+use Rattle.client_world.specs.{declared.place.Place.TheVariants.{Nothing}, declared.segments.FarPtr.{FarPtr}, Access.{access, far_access}}
 use Rattle.client_world.specs.World.{World}
 use Rattle.client_world.proofs.PlaceLaws.{place_in-with_byte_of}
 use Rattle.guest_ram.proofs.PutLaws.{same_region}
-use Rattle.guest_space.specs.declared.pending.Write.{Write}
-use Rattle.guest_space.specs.Far.{after_far_write}
-use Rattle.guest_space.specs.Pending.{after_writes, byte_count, number_bytes, places_of_writes, after_write}
-use Rattle.guest_space.specs.Transfer.{places_of_access, after_store, with_places}
-use Rattle.guest_space.proofs.KeptAccess.{near_kept}
+use Rattle.guest_space.specs.{declared.pending.Write.{Write}, Far.{after_far_write}, Pending.{after_writes, byte_count, number_bytes}}
+use Rattle.guest_space.specs.{Pending.{places_of_writes, after_write}, Transfer.{places_of_access, after_store, with_places}}
 use Rattle.guest_space.proofs.Machines.{CanWrite, CanWriteAll, can_write_after, with_place, with_places_first, with_places_none}
-use Rattle.guest_space.proofs.Machines.{with_places_short}
-use Rattle.guest_space.proofs.OnlyWritten.{can_write_at, write_places}
-use Rattle.guest_space.proofs.Writes.{all_none, all_first}
+use Rattle.guest_space.proofs.{Machines.{with_places_short}, OnlyWritten.{write_places}, Writes.{all_none, all_first}}
+use Rattle.guest_space.proofs.{HostStacks.{far_can_write}, WritesOnly.{places_kept}}
 use Rattle.cpu_step.specs.Step.{view_with_next_eip}
-use Rattle.host_memory.specs.Layout.{address_of, frames_at}
-use Rattle.host_memory.specs.View.{MachineView, OnlyAt}
-use Rattle.host_memory.proofs.OnlyAtLaws.{only_start, only_step, only_then}
-use Rattle.host_memory.proofs.Parts.{addresses_by}
+use Rattle.host_memory.specs.{Layout.{address_of, frames_at}, View.{MachineView, OnlyAt}}
+use Rattle.host_memory.proofs.{OnlyAtLaws.{only_start, only_step, only_then}, Parts.{addresses_by}}
 use Rattle.fault_service.specs.Memory.{IsMachineView}
 
 -- an address lies in none of the host's frames
@@ -116,17 +105,6 @@ one_written v x h =
     access_written v (access v.world x.seg x.off (byte_count x.width) true) (number_bytes x.width x.value) h
     (write_places v.world x.seg x.off (byte_count x.width))
 
--- the others' places are the same after it
-access_kept : (v : MachineView) (x y : Write) →
-    access (after_write v x).world y.seg y.off (byte_count y.width) true ≡ access v.world y.seg y.off (byte_count y.width) true
-unfolding after_write after_store
-access_kept v x y =
-    near_kept v (places_of_write v.world x) (number_bytes x.width x.value) y.seg y.off (byte_count y.width) true
-
-places_kept : (v : MachineView) (x : Write) (ys : List Write) → places_of_writes (after_write v x).world ys ≡ places_of_writes v.world ys
-places_kept v x [] = refl
-places_kept v x (y ∷ ys) = rw (access_kept v x y, places_kept v x ys) refl
-
 pub writes_only : (v : MachineView) (xs : List Write) → LiesAway v → OnlyAt (places_of_writes v.world xs) v.bytes (after_writes v xs).bytes
 writes_only v [] h = subst (λ (u : MachineView). OnlyAt [] v.bytes u.bytes) (sym (all_none v)) (only_start [] v.bytes)
 writes_only v (x ∷ xs) h =
@@ -138,10 +116,6 @@ writes_only v (x ∷ xs) h =
     (writes_only (after_write v x) xs one.away)))
 
 -- ---- a write at a far pointer
-
-far_can_write : (w : World) (p : FarPtr) (n : ℕ) (places : List Place) → far_access w p n true ≡ Ok places → CanWriteAll w places
-unfolding far_access
-far_can_write w p n places e = can_write_at w (protected_base w.descriptors Es p.sel p.off n true) p.off n places e
 
 pub far_only : (v : MachineView) (p : FarPtr) (n : ℕ) (bytes : List ℕ) → LiesAway v →
     OnlyAt (places_of_access (far_access v.world p n true)) v.bytes (after_far_write v p n bytes).bytes

@@ -1,13 +1,8 @@
 -- The bytes of a frame's items.
-use Rattle.std.proofs.Common.{◌≡◌, ℕ, ◌*◌, List, [], ◌∷◌, length, replicate, refl, ◌∙◌, sym, arith}
-use Rattle.std.proofs.lemmas.Grind.{same_number_lists}
+use Rattle.std.proofs.Common.{◌≡◌, ℕ, ◌*◌, List, [], ◌∷◌, length, replicate, refl, ◌∙◌, arith}
 use Rattle.guest_ram.specs.Bytes.{put}
-use Rattle.guest_ram.proofs.PutLaws.{length-put, put_within}
 use Rattle.fault_service.specs.Delivery.{items_bytes}
-
-pub put_all : (b xs : List ℕ) → length xs ≡ length b → put b 0 xs ≡ xs
-put_all b xs size = same_number_lists (put b 0 xs) xs (length-put b 0 xs ∙ sym size) (λ at small.
-    put_within b 0 xs at at (omega arith) (omega (arith, length-put b 0 xs)) (omega arith))
+use Rattle.guest_ram.proofs.PutLaws.{put_all}
 
 pub length-words : (items : List ℕ) → length (items_bytes 16 items) ≡ 2 * length items
 length-words [] = refl

@@ -1,38 +1,23 @@
 -- The items of a frame on the host's stack, as a return reads them.
 use Rattle.std.proofs.Common.{◌≡◌, ◌≢◌, ℕ, ◌+◌, ◌*◌, ◌<◌, ◌≤◌, ◌⊎◌, inl, inr, zero, suc, Bool, true, false, List, [], ◌∷◌, length, get_or}
-use Rattle.std.proofs.Common.{refl, ap, ◌∙◌, arith, Option, None, Result, Ok, Err}
-use Rattle.std.proofs.Math.Seq.{drop-append-add}
-use Rattle.client_world.specs.declared.faults.Event.{Event}
-use Rattle.client_world.specs.declared.faults.Fault.{Fault}
-use Rattle.client_world.specs.declared.limits.TheConstants.{GREATEST_DEPTH}
-use Rattle.client_world.specs.declared.memory_map.TheConstants.{PROTECTED_STACK_SIZE}
-use Rattle.client_world.specs.declared.registers.Mode.TheVariants.{Protected}
-use Rattle.client_world.specs.declared.registers.TheConstants.{INTERRUPT_BIT}
-use Rattle.client_world.specs.declared.segments.SegReg.TheVariants.{Cs, Ss}
-use Rattle.client_world.specs.declared.selectors.TheConstants.{HOST_STACKS}
-use Rattle.client_world.specs.Loading.{load_fault}
-use Rattle.client_world.specs.Registers.{has_bit, low_half}
-use Rattle.client_world.specs.Selector.{selector_of}
-use Rattle.client_world.specs.Soundness.{IsSound}
-use Rattle.client_world.specs.World.{World}
+use Rattle.std.proofs.{Common.{refl, ap, ◌∙◌, arith, Option, None, Result, Ok}, Math.Seq.{drop-append-add}}
+use Rattle.client_world.specs.{declared.faults.Event.{Event}, declared.faults.Fault.{Fault}, declared.limits.TheConstants.{GREATEST_DEPTH}}
+use Rattle.client_world.specs.{declared.memory_map.TheConstants.{PROTECTED_STACK_SIZE}, declared.registers.Mode.TheVariants.{Protected}}
+use Rattle.client_world.specs.{declared.registers.TheConstants.{INTERRUPT_BIT}, declared.segments.SegReg.TheVariants.{Cs, Ss}}
+use Rattle.client_world.specs.{declared.selectors.TheConstants.{HOST_STACKS}, Loading.{load_fault}, Registers.{has_bit, low_half}}
+use Rattle.client_world.specs.{Selector.{selector_of}, Soundness.{IsSound}, World.{World}}
 use Rattle.guest_ram.specs.Bytes.{region}
-use Rattle.guest_space.specs.Far.{far_bytes}
-use Rattle.guest_space.specs.Pending.{byte_count, number_bytes}
-use Rattle.guest_space.specs.Transfer.{read_result}
-use Rattle.guest_space.proofs.FarLaws.{part_is_read}
-use Rattle.guest_space.proofs.HostStacks.{stacks_at, stacks_loaded, stacks_reachable}
-use Rattle.guest_space.proofs.WriteRuns.{count_some}
+use Rattle.guest_space.specs.{Far.{far_bytes}, Pending.{byte_count, number_bytes}, Transfer.{read_result}}
+use Rattle.guest_space.proofs.{FarLaws.{part_is_read}, HostStacks.{stacks_at, stacks_loaded, stacks_reachable}, WriteRuns.{count_some}}
 use Rattle.host_memory.specs.View.{MachineView}
 use Rattle.insn_forms.specs.Grammar.{little_endian}
-use Rattle.insn_plan.specs.Act.{Act, Input, Pending, Read, done, number_read, unless_fault, value_of}
+use Rattle.insn_plan.specs.{Act.{Act, Pending, number_read, unless_fault, value_of}, Plan.{after_plan, plan_result, with_state}}
+use Rattle.insn_plan.specs.{Registers.{cut_address}, Stack.{stack_item, stack_pointer_up}}
 use Rattle.insn_plan.proofs.Settled.{carried_by}
-use Rattle.insn_plan.specs.Plan.{after_plan, plan_result, with_state}
-use Rattle.insn_plan.specs.Registers.{cut_address}
-use Rattle.insn_plan.specs.Stack.{stack_item, stack_pointer_up}
-use Rattle.fault_service.specs.Delivery.{items_bytes}
-use Rattle.fault_service.specs.Return.{pending_of_exception_frame, exception_frame_pop, frame_regs}
+use Rattle.fault_service.specs.{Delivery.{items_bytes}, Return.{pending_of_exception_frame, exception_frame_pop, frame_regs}}
 use Rattle.fault_service.specs.Trip.{cut_item}
 use Rattle.fault_service.proofs.Plans.{settled_is}
+use Rattle.exec_flow.proofs.FrameReads.{planned_read}
 
 -- a world whose stack pointer is above the return address of a frame at that offset of the host's stacks
 pub record AtFrame (w : World) (bits offset : ℕ) (frame : List ℕ) : Type 0 where
@@ -73,45 +58,15 @@ pub record ItemValues (w : World) (bits ip cs image sp ss : ℕ) : Type 0 where
   pub fifth : value_of w (stack_item w bits 4) ≡ Ok sp
   pub sixth : value_of w (stack_item w bits 5) ≡ Ok ss
 
-step : (w : World) (input : Input) (rest : ℕ → Act) (v : ℕ) → value_of w input ≡ Ok v →
-    plan_result w (Read input rest) ≡ plan_result w (rest v)
-step w input rest v e =
-    ap (λ (r : Result ℕ Event). elim r as (λ _. Result Pending Event) [ Ok x ↦ plan_result w (rest x) | Err f ↦ Err f ]) e
-
 pass : (w : World) (o : Option Fault) (act : Act) → o ≡ None → plan_result w (unless_fault o act) ≡ plan_result w act
 pass w o act e = ap (λ (x : Option Fault). plan_result w (unless_fault x act)) e
-
--- what is left to do after each item
-abbrev leaves : World → ℕ → ℕ → ℕ → ℕ → ℕ → Act
-leaves w ip cs image sp ss = done (pending_of_exception_frame w ip (low_half cs) (low_half image) sp (low_half ss))
-
-abbrev asks_stack : World → ℕ → ℕ → ℕ → ℕ → ℕ → Act
-asks_stack w ip cs image sp ss = unless_fault (load_fault w.descriptors Ss (low_half ss) 0 false) (leaves w ip cs image sp ss)
-
-abbrev asks : World → ℕ → ℕ → ℕ → ℕ → ℕ → Act
-asks w ip cs image sp ss = unless_fault (load_fault w.descriptors Cs (low_half cs) ip true) (asks_stack w ip cs image sp ss)
-
-abbrev after_image : World → ℕ → ℕ → ℕ → ℕ → ℕ → Act
-after_image w bits ip cs image sp = Read (stack_item w bits 5) (asks w ip cs image sp)
-
-abbrev after_cs : World → ℕ → ℕ → ℕ → ℕ → Act
-after_cs w bits ip cs image = Read (stack_item w bits 4) (after_image w bits ip cs image)
-
-abbrev after_ip : World → ℕ → ℕ → ℕ → Act
-after_ip w bits ip cs = Read (stack_item w bits 3) (after_cs w bits ip cs)
-
-abbrev after_code : World → ℕ → ℕ → Act
-after_code w bits ip = Read (stack_item w bits 2) (after_ip w bits ip)
-
-abbrev after_first : World → ℕ → ℕ → Act
-after_first w bits code = Read (stack_item w bits 1) (after_code w bits)
 
 -- the plan that they give
 plan_is : (w : World) (bits ip cs image sp ss : ℕ) → ItemValues w bits ip cs image sp ss →
     load_fault w.descriptors Cs (low_half cs) ip true ≡ None → load_fault w.descriptors Ss (low_half ss) 0 false ≡ None →
     plan_result w (exception_frame_pop w bits) ≡ Ok (pending_of_exception_frame w ip (low_half cs) (low_half image) sp (low_half ss))
 unfolding exception_frame_pop
-plan_is w bits ip cs image sp ss h code stack = grind (arith, pass, step)
+plan_is w bits ip cs image sp ss h code stack = grind (arith, pass, planned_read)
 
 carried_left : (y : MachineView) (plan : Result Pending Event) (p : Pending) → plan ≡ Ok p → p.writes ≡ [] →
     after_plan y plan ≡ Ok (with_state p.regs p.vif y)

@@ -1,8 +1,7 @@
 -- Where the innermost record is an exception's there is one, and popping the frame keeps it.
 use Rattle.std.proofs.Common.{◌≡◌, ℕ, ◌-◌, ◌<◌, true, List, [], ◌∷◌, length, ap, arith, Option, Ok}
 use Rattle.std.specs.List.{slice_get}
-use Rattle.client_world.specs.declared.calls.Record.{Record}
-use Rattle.client_world.specs.World.{World, depth}
+use Rattle.client_world.specs.{declared.calls.Record.{Record}, World.{World, depth}}
 use Rattle.host_memory.specs.View.{MachineView}
 use Rattle.insn_plan.specs.Plan.{after_plan, plan_result}
 use Rattle.mode_stack.specs.Stack.{top}

@@ -1,49 +1,30 @@
 -- The bytes that a delivery and a return change.
 use Rattle.std.proofs.Common.{◌≡◌, ◌≢◌, ℕ, ◌-◌, ◌*◌, ◌<◌, ◌≤◌, Bool, true, false, List, [], refl, ap, ◌∙◌, sym, subst, arith, Option, None}
-use Rattle.std.proofs.Common.{Some, Result, Ok, Err}
+use Rattle.std.proofs.{Common.{Some, Result, Ok, Err}, lemmas.Bool.{leb-false}}
 use Rattle.std.specs.Prelude.{nat_le, if◌then◌else◌}
-use Rattle.std.proofs.lemmas.Bool.{leb-false}
-use Rattle.client_world.specs.declared.calls.Record.TheVariants.{Exc}
-use Rattle.client_world.specs.declared.faults.Event.{Event}
-use Rattle.client_world.specs.declared.faults.Fault.{Fault}
-use Rattle.client_world.specs.declared.limits.TheConstants.{GREATEST_DEPTH}
-use Rattle.client_world.specs.declared.outcome.Exit.{Exit}
-use Rattle.client_world.specs.declared.outcome.Exit.TheVariants as exits
-use Rattle.client_world.specs.declared.registers.Mode.{Mode}
-use Rattle.client_world.specs.declared.registers.Width.{Width}
-use Rattle.client_world.specs.declared.segments.FarPtr.{FarPtr}
-use Rattle.client_world.specs.declared.segments.SegReg.TheVariants.{Cs}
-use Rattle.client_world.specs.Loading.{load_fault}
-use Rattle.client_world.specs.Soundness.{IsSound}
-use Rattle.client_world.specs.World.{World, depth}
+use Rattle.client_world.specs.{declared.calls.Record.TheVariants.{Exc}, declared.faults.Event.{Event}, declared.faults.Fault.{Fault}}
+use Rattle.client_world.specs.{declared.limits.TheConstants.{GREATEST_DEPTH}, declared.outcome.Exit.{Exit}, declared.registers.Mode.{Mode}}
+use Rattle.client_world.specs.{declared.registers.Width.{Width}, declared.segments.FarPtr.{FarPtr}}
+use Rattle.client_world.specs.{declared.segments.SegReg.TheVariants.{Cs}, Loading.{load_fault}, Soundness.{IsSound}, World.{World, depth}}
+use Rattle.client_world.specs.{declared.registers.Mode.TheVariants.{Real, Protected}, declared.registers.Width.TheVariants.{Sixteen}}
+use Rattle.client_world.specs.declared.registers.Width.TheVariants.{ThirtyTwo}
 use Rattle.exec_flow.specs.Interrupts.{frame_bits, item_bits}
-use Rattle.guest_space.specs.Pending.{byte_count}
-use Rattle.client_world.specs.declared.registers.Mode.TheVariants.{Real, Protected}
-use Rattle.client_world.specs.declared.registers.Width.TheVariants.{Sixteen, ThirtyTwo}
+use Rattle.guest_space.specs.{Pending.{byte_count}, Far.{after_far_write}, Records.{OnlyAtAndRow, record_place}, VectorLists.{vector_at}}
 use Rattle.client_world.proofs.PlaceLaws.{length-places_from}
-use Rattle.guest_ram.specs.Listed.{zeros}
-use Rattle.guest_ram.specs.Bytes.{put}
+use Rattle.guest_ram.specs.{Listed.{zeros}, Bytes.{put}}
 use Rattle.guest_ram.proofs.ListedLaws.{length-zeros}
-use Rattle.guest_space.specs.Far.{after_far_write}
-use Rattle.guest_space.specs.Records.{OnlyAtAndRow, record_place}
-use Rattle.guest_space.proofs.HostStacks.{stacks_place, stacks_places}
-use Rattle.guest_space.proofs.MemoryAlone.{other_far}
-use Rattle.guest_space.proofs.RecordWrites.{only_row}
-use Rattle.host_memory.specs.Records.{record_bytes, record_size}
-use Rattle.host_memory.specs.View.{MachineView}
+use Rattle.guest_space.proofs.{HostStacks.{stacks_place, stacks_places}, MemoryAlone.{other_far}, RecordWrites.{only_row}}
+use Rattle.host_memory.specs.{Records.{record_bytes, record_size}, View.{MachineView}}
 use Rattle.host_memory.proofs.OnlyAtLaws.{only_start}
 use Rattle.insn_plan.specs.Plan.{after_plan, plan_result}
 use Rattle.mode_stack.specs.Stack.{top}
 use Rattle.mode_stack.proofs.Trips.{length-record_bytes}
 use Rattle.fault_service.specs.Delivery.{after_delivery, delivery_to, exception_frame, exception_frame_start, exception_frame_size}
-use Rattle.fault_service.specs.Delivery.{protected_delivery}
-use Rattle.interrupts.specs.Delivery.{exit_of_fault}
-use Rattle.guest_space.specs.VectorLists.{vector_at}
-use Rattle.fault_service.specs.Memory.{frame_places, DeliveryLaw, IsMachineView, ReturnLaw, LiesInStack}
+use Rattle.fault_service.specs.{Delivery.{protected_delivery}, Memory.{frame_places, DeliveryLaw, IsMachineView, ReturnLaw, LiesInStack}}
 use Rattle.fault_service.specs.Return.{exception_frame_pop, exception_return, is_exception, result_of_exception_pop}
-use Rattle.fault_service.proofs.AwayWrites.{far_only, machine_away}
-use Rattle.fault_service.proofs.KeptRecords.{exception_there}
-use Rattle.fault_service.proofs.Plans.{pop_restores}
+use Rattle.interrupts.specs.Delivery.{exit_of_fault}
+use Rattle.fault_service.proofs.{AwayWrites.{far_only, machine_away}, KeptRecords.{exception_there}, Plans.{pop_restores}}
+use Rattle.client_world.specs.declared.outcome.Exit.TheVariants as exits
 
 -- a delivery that is made
 pub record IsDelivered (v u : MachineView) (f : Fault) (p : FarPtr) : Type 0 where

@@ -1,16 +1,12 @@
 -- What the plan of a return leaves: no write, and segment registers that are words.
 use Rattle.std.proofs.Common.{◌≡◌, ℕ, ◌<◌, Bool, [], refl, Option, None, Some, Result, Ok, Err, arith}
-use Rattle.client_world.specs.declared.faults.Event.{Event}
-use Rattle.client_world.specs.declared.faults.Event.TheVariants.{Fault as fault}
-use Rattle.client_world.specs.declared.faults.Fault.{Fault}
-use Rattle.client_world.specs.declared.registers.Regs.{Regs}
-use Rattle.client_world.specs.Soundness.{HasSegments}
-use Rattle.client_world.specs.World.{World}
+use Rattle.client_world.specs.{declared.faults.Event.{Event}, declared.faults.Event.TheVariants.{Fault as fault}}
+use Rattle.client_world.specs.{declared.faults.Fault.{Fault}, declared.registers.Regs.{Regs}, Soundness.{HasSegments}, World.{World}}
 use Rattle.cpu_step.proofs.SegmentWords.{half_is_word}
 use Rattle.guest_space.proofs.Writes.{all_none, first_none}
 use Rattle.host_memory.specs.View.{MachineView}
-use Rattle.insn_plan.specs.Act.{Act, Input, Pending, Read, unless_fault, value_of}
-use Rattle.insn_plan.specs.Plan.{after_plan, plan_result, after_commit, with_state}
+use Rattle.insn_plan.specs.{Act.{Act, Input, Pending, Read, unless_fault, value_of}, Plan.{after_plan, plan_result, after_commit}}
+use Rattle.insn_plan.specs.Plan.{with_state}
 use Rattle.fault_service.specs.Return.{pending_of_exception_frame, exception_frame_pop}
 
 -- what is left is such that nothing is written, and the segment registers are words

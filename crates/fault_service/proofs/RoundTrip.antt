@@ -1,49 +1,31 @@
 -- At the handler the frame is read as it was written, and a return restores what a delivery saved.
-use Rattle.std.proofs.Common.{◌≡◌, ◌≢◌, ℕ, ◌+◌, ◌-◌, ◌*◌, ◌<◌, ◌≤◌, ◌⊎◌, inl, inr, Bool, true, false, cond, List, [], ◌∷◌, ◌++◌, length}
-use Rattle.std.proofs.Common.{take, refl, ap, ◌∙◌, sym, subst, arith, Option, None, Some, Result, Ok}
+use Rattle.std.proofs.Common.{◌≡◌, ◌≢◌, ℕ, ◌+◌, ◌-◌, ◌*◌, ◌<◌, ◌≤◌, ◌⊎◌, inl, inr, Bool, true, false, List, [], ◌∷◌, ◌++◌, length, take}
+use Rattle.std.proofs.{Common.{refl, ap, ◌∙◌, sym, subst, arith, Option, None, Some, Result, Ok}, lemmas.List.{length-append, get_or_at}}
+use Rattle.std.proofs.{Math.Seq.{take-append_seam}, lemmas.Option.{slice_get-get_or}}
 use Rattle.std.specs.List.{slice_get}
-use Rattle.std.proofs.lemmas.List.{length-append, get_or_at}
-use Rattle.std.proofs.Math.Seq.{take-append_seam}
-use Rattle.std.proofs.lemmas.Option.{slice_get-get_or}
-use Rattle.client_world.specs.declared.calls.Record.{Record}
-use Rattle.client_world.specs.declared.calls.Record.TheVariants.{Exc}
-use Rattle.client_world.specs.declared.faults.Event.{Event}
-use Rattle.client_world.specs.declared.faults.Fault.{Fault}
-use Rattle.client_world.specs.declared.limits.TheConstants.{GREATEST_DEPTH}
-use Rattle.client_world.specs.declared.registers.Flags.{Flags}
-use Rattle.client_world.specs.declared.registers.Mode.{Mode}
-use Rattle.client_world.specs.declared.registers.Mode.TheVariants.{Real, Protected}
-use Rattle.client_world.specs.declared.registers.Regs.{Regs}
-use Rattle.client_world.specs.declared.registers.TheConstants.{INTERRUPT_BIT}
-use Rattle.client_world.specs.declared.registers.Width.{Width}
-use Rattle.client_world.specs.declared.registers.Width.TheVariants.{Sixteen, ThirtyTwo}
-use Rattle.client_world.specs.declared.segments.FarPtr.{FarPtr}
-use Rattle.client_world.specs.declared.segments.SegReg.TheVariants.{Cs, Ss}
-use Rattle.client_world.specs.declared.selectors.TheConstants.{HOST_STACKS}
-use Rattle.client_world.specs.Loading.{load_fault}
-use Rattle.client_world.specs.Registers.{flags_image, has_bit, low_half}
-use Rattle.client_world.specs.Selector.{selector_of}
-use Rattle.client_world.specs.Soundness.{IsSound, HasSegments}
-use Rattle.client_world.specs.World.{World, depth}
-use Rattle.client_world.proofs.SoundWrites.{IsSound-regs, IsSound-vif}
+use Rattle.client_world.specs.{declared.calls.Record.{Record}, declared.calls.Record.TheVariants.{Exc}, declared.faults.Event.{Event}}
+use Rattle.client_world.specs.{declared.faults.Fault.{Fault}, declared.limits.TheConstants.{GREATEST_DEPTH}}
+use Rattle.client_world.specs.{declared.registers.Flags.{Flags}, declared.registers.Mode.{Mode}, declared.registers.Mode.TheVariants.{Real}}
+use Rattle.client_world.specs.{declared.registers.Mode.TheVariants.{Protected}, declared.registers.Regs.{Regs}}
+use Rattle.client_world.specs.{declared.registers.TheConstants.{INTERRUPT_BIT}, declared.registers.Width.{Width}}
+use Rattle.client_world.specs.{declared.registers.Width.TheVariants.{Sixteen, ThirtyTwo}, declared.segments.FarPtr.{FarPtr}}
+use Rattle.client_world.specs.{declared.segments.SegReg.TheVariants.{Cs, Ss}, declared.selectors.TheConstants.{HOST_STACKS}}
+use Rattle.client_world.specs.{Loading.{load_fault}, Registers.{flags_image, has_bit, low_half}, Selector.{selector_of}}
+use Rattle.client_world.specs.{Soundness.{IsSound, HasSegments}, World.{World, depth}}
+use Rattle.client_world.proofs.{SoundWrites.{IsSound-regs, IsSound-vif, protected_by}, FlagBits.{image_small}}
 use Rattle.exec_flow.specs.Interrupts.{frame_bits, item_bits}
-use Rattle.guest_space.specs.Far.{far_bytes}
-use Rattle.guest_space.specs.Pending.{byte_count}
-use Rattle.guest_space.proofs.FarLaws.{written_is_read}
-use Rattle.guest_space.proofs.HostStacks.{far_same, stacks_at, stacks_loaded, stacks_reachable}
-use Rattle.guest_space.specs.Transfer.{read_result}
+use Rattle.guest_space.specs.{Far.{far_bytes}, Pending.{byte_count}, Transfer.{read_result}}
+use Rattle.guest_space.proofs.{FarLaws.{written_is_read}, HostStacks.{far_same, stacks_at, stacks_loaded, stacks_reachable}}
 use Rattle.guest_space.proofs.MemoryAlone.{other_far}
 use Rattle.host_memory.specs.View.{MachineView}
 use Rattle.insn_plan.specs.Plan.{after_plan, plan_result, with_state}
 use Rattle.mode_stack.specs.Stack.{after_pop, top}
 use Rattle.mode_stack.proofs.Trips.{FlagsTrip}
 use Rattle.fault_service.specs.Delivery.{after_delivery, exception_frame, exception_items, exception_frame_start, exception_frame_size}
-use Rattle.fault_service.specs.Delivery.{handler_regs, protected_delivery}
-use Rattle.fault_service.specs.Return.{exception_frame_pop, exception_return, is_exception}
+use Rattle.fault_service.specs.{Delivery.{handler_regs, protected_delivery}, Return.{exception_frame_pop, exception_return, is_exception}}
 use Rattle.fault_service.specs.Trip.{FrameLaw, TripLaw, cut_item, regs_after_return}
-use Rattle.fault_service.proofs.FrameItems.{AtFrame, popped_is, item_values}
-use Rattle.fault_service.proofs.MemoryLaws.{is_delivered, frame_written}
-use Rattle.fault_service.proofs.SoundAnswers.{sound_delivered, protected_by}
+use Rattle.fault_service.proofs.{FrameItems.{AtFrame, popped_is, item_values}, MemoryLaws.{is_delivered, frame_written}}
+use Rattle.fault_service.proofs.SoundAnswers.{sound_delivered}
 use Rattle.interrupts.proofs.SoundAnswers.{code_is_named_by_a_word}
 
 abbrev pub InterruptTrip : Type 0
@@ -56,24 +38,6 @@ last_is xs r =
     let total : length (xs ++ r ∷ []) ≡ length xs + 1 = length-append xs (r ∷ []) in
     slice_get-get_or (xs ++ r ∷ []) (length (xs ++ r ∷ []) - 1) r (omega arith)
     ∙ ap (λ (x : Record). Some x) (get_or_at xs r [] r (length (xs ++ r ∷ []) - 1) (omega arith))
-
-weight : (b : Bool) (n : ℕ) → cond b n 0 ≤ n
-weight true n = omega arith
-weight false n = omega arith
-
-image_small : (f : Flags) (i : Bool) → flags_image f i < 0x10000
-image_small f i =
-    omega (
-      arith,
-      weight f.cf 1,
-      weight f.pf 4,
-      weight f.af 16,
-      weight f.zf 64,
-      weight f.sf 128,
-      weight i 512,
-      weight f.df 1024,
-      weight f.of 2048,
-    )
 
 bits_by : (mode : Mode) (width : Option Width) →
     let bits = elim mode as (λ _. ℕ) [ Real ↦ 16 | Protected ↦ item_bits width ] in (bits ≡ 16) ⊎ (bits ≡ 32)

@@ -1,54 +1,31 @@
 -- A delivery and a return lead from a sound world to a sound one, and depend on the world alone.
-use Rattle.std.proofs.Common.{◌≡◌, ◌≢◌, ℕ, zero, suc, ◌-◌, ◌<◌, ◌≤◌, Bool, true, false, List, [], ◌∷◌, ◌++◌, length, take, refl, ap, ◌∙◌}
-use Rattle.std.proofs.Common.{sym, subst, arith, if◌then◌else◌, Option, None, Some, Result, Ok, Err}
-use Rattle.std.proofs.lemmas.List.{get_or_past, length-append, length-take-le}
-use Rattle.client_world.specs.declared.faults.Event.{Event}
-use Rattle.client_world.specs.declared.faults.Fault.{Fault}
-use Rattle.client_world.specs.declared.limits.TheConstants.{GREATEST_DEPTH}
-use Rattle.client_world.specs.declared.outcome.Exit.{Exit}
-use Rattle.client_world.specs.declared.outcome.Exit.TheVariants as exits
-use Rattle.client_world.specs.declared.registers.Mode.TheVariants.{Protected}
-use Rattle.client_world.specs.declared.registers.Width.{Width}
-use Rattle.client_world.specs.declared.segments.FarPtr.{FarPtr}
-use Rattle.client_world.specs.Soundness.{IsSound, SoundWidth, HasSegments}
-use Rattle.client_world.specs.World.{World, depth}
-use Rattle.client_world.proofs.SoundWrites.{IsSound-regs, IsSound-vif}
+use Rattle.std.proofs.Common.{◌≡◌, ◌≢◌, ℕ, ◌-◌, ◌<◌, ◌≤◌, Bool, true, false, List, [], ◌∷◌, length, take, refl, ap, ◌∙◌, sym, subst, arith}
+use Rattle.std.proofs.{Common.{if◌then◌else◌, Option, None, Some, Result, Ok, Err}, lemmas.List.{get_or_past, length-append}}
+use Rattle.std.proofs.lemmas.List.{length-take-le}
+use Rattle.client_world.specs.{declared.faults.Event.{Event}, declared.faults.Fault.{Fault}, declared.limits.TheConstants.{GREATEST_DEPTH}}
+use Rattle.client_world.specs.{declared.outcome.Exit.{Exit}, declared.registers.Mode.TheVariants.{Protected}}
+use Rattle.client_world.specs.{declared.segments.FarPtr.{FarPtr}, Soundness.{IsSound, HasSegments}, World.{World, depth}}
+use Rattle.client_world.proofs.SoundWrites.{IsSound-regs, IsSound-vif, protected_by}
 use Rattle.exec_flow.specs.Interrupts.{frame_bits}
 use Rattle.guest_ram.specs.Bytes.{AreBytes}
-use Rattle.guest_space.specs.Pending.{number_bytes}
-use Rattle.guest_space.proofs.FarPuts.{sound_far, far_alone}
-use Rattle.guest_space.proofs.MemoryAlone.{other_far}
-use Rattle.guest_space.specs.VectorLists.{vector_at}
-use Rattle.cpu_step.proofs.FlowSegments.{code_is_word}
-use Rattle.cpu_step.proofs.SoundWritten.{number_is_bytes}
+use Rattle.guest_space.specs.{Pending.{number_bytes}, VectorLists.{vector_at}}
+use Rattle.guest_space.proofs.{FarPuts.{sound_far, far_alone}, MemoryAlone.{other_far}, RecordWrites.{has_width}}
+use Rattle.guest_space.proofs.SoundLists.{IsSound-calls}
+use Rattle.cpu_step.proofs.{FlowSegments.{code_is_word}, SoundWritten.{number_is_bytes}}
 use Rattle.interrupts.proofs.SoundAnswers.{code_is_named_by_a_word}
 use Rattle.interrupts.specs.Worlds.{view_without_bytes, world_of_result}
-use Rattle.insn_plan.specs.Act.{Pending}
-use Rattle.guest_space.proofs.RecordWrites.{has_width}
-use Rattle.guest_space.proofs.SoundLists.{IsSound-calls}
+use Rattle.insn_plan.specs.{Act.{Pending}, Plan.{after_plan, plan_result}}
 use Rattle.host_memory.specs.View.{MachineView}
-use Rattle.insn_plan.specs.Plan.{after_plan, plan_result}
 use Rattle.mode_stack.specs.Stack.{top}
 use Rattle.fault_service.specs.Delivery.{after_delivery, exception_frame, exception_items, exception_frame_start, exception_frame_size}
-use Rattle.fault_service.specs.Delivery.{handler_regs, items_bytes, protected_delivery}
-use Rattle.fault_service.specs.Return.{exception_frame_pop, exception_return, is_exception, result_of_exception_pop}
-use Rattle.fault_service.specs.Worlds.{world_exception_return, world_protected_delivery}
-use Rattle.fault_service.proofs.KeptRecords.{exception_there}
-use Rattle.fault_service.proofs.MemoryLaws.{is_delivered, frame_written, depth_kept}
-use Rattle.fault_service.proofs.Plans.{Restores, OfPlan, of_popped, pop_restores, settled_is}
+use Rattle.fault_service.specs.{Delivery.{handler_regs, items_bytes, protected_delivery}, Return.{exception_frame_pop, exception_return}}
+use Rattle.fault_service.specs.{Return.{is_exception, result_of_exception_pop}, Worlds.{world_exception_return, world_protected_delivery}}
+use Rattle.fault_service.proofs.{KeptRecords.{exception_there}, MemoryLaws.{is_delivered, frame_written, depth_kept}, Plans.{Restores}}
+use Rattle.fault_service.proofs.Plans.{OfPlan, of_popped, pop_restores, settled_is}
+use Rattle.guest_ram.proofs.ByteLists.{join_bytes, no_bytes}
+use Rattle.client_world.specs.declared.outcome.Exit.TheVariants as exits
 
 -- ---- what is written are bytes
-
-no_bytes : AreBytes []
-no_bytes at = omega arith
-
-one_byte : (byte : ℕ) (bytes : List ℕ) → byte < 0x100 → AreBytes bytes → AreBytes (byte ∷ bytes)
-one_byte byte bytes small rest zero = small
-one_byte byte bytes small rest (suc at) = rest at
-
-join_bytes : (xs ys : List ℕ) → AreBytes xs → AreBytes ys → AreBytes (xs ++ ys)
-join_bytes [] ys one other = other
-join_bytes (x ∷ xs) ys one other = one_byte x (xs ++ ys) (one 0) (join_bytes xs ys (λ at. one (suc at)) other)
 
 item_is_bytes : (bits v : ℕ) → AreBytes (number_bytes bits v)
 item_is_bytes bits v at = grind (arith, get_or_past, number_is_bytes)
@@ -65,10 +42,6 @@ frame_is_bytes w f = items_are_bytes (frame_bits w) (exception_items w f)
 
 handler_segments : (w : World) (p : FarPtr) → HasSegments w.regs → p.sel < 0x10000 → HasSegments (handler_regs w p)
 handler_segments w p s small = grind (arith, code_is_word)
-
-pub protected_by : (width : Option Width) (w : World) → w.mode ≡ Protected → SoundWidth width w → width ≢ None
-protected_by None w is s = λ e. (let real = s.mode in cc)
-protected_by (Some width) w is s = λ e. cc
 
 width_kept : (v : MachineView) (f : Fault) → (frame_written v f).world.width ≡ v.world.width
 unfolding frame_written

@@ -1,7 +1,6 @@
 -- The bytes that the client's next instruction and its software interrupt change.
 use Rattle.std.proofs.Common.{◌≡◌, ℕ, List, sym, subst, Option, None, Some, Result, Ok, Err, arith}
-use Rattle.client_world.specs.declared.faults.Event.{Event}
-use Rattle.client_world.specs.declared.faults.Event.TheVariants.{Fault as fault}
+use Rattle.client_world.specs.{declared.faults.Event.{Event}, declared.faults.Event.TheVariants.{Fault as fault}}
 use Rattle.client_world.specs.declared.faults.Fault.{Fault}
 use Rattle.cpu_step.specs.Step.{view_with_next_eip, client_row, client_step, code, after_instruction, has_big_code, step_of}
 use Rattle.exec_flow.specs.Interrupts.{interrupt_push}
@@ -9,15 +8,12 @@ use Rattle.interrupts.specs.Delivery.{has_real_vector, after_interrupt_entry, re
 use Rattle.interrupts.proofs.SoundAnswers.{delivered_was, granted_was}
 use Rattle.guest_space.specs.Pending.{after_writes, places_of_writes}
 use Rattle.host_memory.specs.View.{MachineView, OnlyAt}
-use Rattle.insn_decode.specs.declared.decoding.Decoded.{Decoded}
-use Rattle.insn_decode.specs.declared.decoding.Decoded.TheVariants.{Whole, More, Invalid}
+use Rattle.insn_decode.specs.{declared.decoding.Decoded.{Decoded}, declared.decoding.Decoded.TheVariants.{Whole, More, Invalid}}
 use Rattle.insn_decode.specs.Decode.{decoded}
 use Rattle.insn_forms.specs.declared.insn.Insn.{Insn}
-use Rattle.insn_plan.specs.Accesses.{with_next_eip}
-use Rattle.insn_plan.specs.Act.{Pending}
-use Rattle.insn_plan.specs.Plan.{after_plan, plan_result, after_commit}
-use Rattle.fault_service.specs.Memory.{IsMachineView}
-use Rattle.fault_service.specs.StepMemory.{InterruptLaw, RealDeliveryLaw, StepLaw, interrupt_places, written_by, written_of, written_places}
+use Rattle.insn_plan.specs.{Accesses.{with_next_eip}, Act.{Pending}, Plan.{after_plan, plan_result, after_commit}}
+use Rattle.fault_service.specs.{Memory.{IsMachineView}, StepMemory.{InterruptLaw, RealDeliveryLaw, StepLaw, interrupt_places, written_by}}
+use Rattle.fault_service.specs.StepMemory.{written_of, written_places}
 use Rattle.fault_service.proofs.AwayWrites.{behind_away, machine_away, writes_only}
 
 -- a view whose writes change their places alone

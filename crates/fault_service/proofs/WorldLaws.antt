@@ -1,30 +1,22 @@
 -- A delivery and a return of worlds: they keep a world sound, a delivery adds the record of its exception, and a return takes one away.
-use Rattle.std.proofs.Common.{arith, ◌≡◌, ◌∙◌, ℕ, ◌-◌, Bool, true, false, List, [], ◌∷◌, ◌++◌, length, take, refl, ap, sym, Option, None}
-use Rattle.std.proofs.Common.{Some, Result, Ok, Err}
-use Rattle.std.specs.List.{slice_get}
-use Rattle.std.specs.Prelude.{if◌then◌else◌}
-use Rattle.client_world.specs.declared.calls.Record.{Record}
-use Rattle.client_world.specs.declared.calls.Record.TheVariants.{Sim, Back, Exc}
-use Rattle.client_world.specs.declared.faults.Event.{Event}
-use Rattle.client_world.specs.declared.faults.Fault.{Fault}
-use Rattle.client_world.specs.declared.outcome.Exit.{Exit}
-use Rattle.client_world.specs.declared.outcome.Exit.TheVariants as exits
-use Rattle.client_world.specs.declared.registers.Mode.TheVariants.{Protected}
-use Rattle.client_world.specs.Soundness.{IsSound}
-use Rattle.client_world.specs.World.{World}
+use Rattle.std.proofs.Common.{arith, ◌≡◌, ◌∙◌, ℕ, ◌-◌, Bool, true, false, List, [], ◌∷◌, ◌++◌, length, refl, ap, sym, Option, None, Some}
+use Rattle.std.proofs.Common.{Result, Ok, Err}
+use Rattle.std.specs.{List.{slice_get}, Prelude.{if◌then◌else◌}}
+use Rattle.client_world.specs.{declared.calls.Record.{Record}, declared.calls.Record.TheVariants.{Sim, Back, Exc}}
+use Rattle.client_world.specs.{declared.faults.Event.{Event}, declared.faults.Fault.{Fault}, declared.outcome.Exit.{Exit}}
+use Rattle.client_world.specs.{declared.registers.Mode.TheVariants.{Protected}, Soundness.{IsSound}, World.{World}}
 use Rattle.exec_flow.specs.Interrupts.{frame_bits}
 use Rattle.interrupts.specs.Worlds.{view_without_bytes}
 use Rattle.interrupts.proofs.SoundAnswers.{holds_of_world}
 use Rattle.host_memory.specs.View.{MachineView}
 use Rattle.insn_plan.specs.Plan.{after_plan, plan_result}
 use Rattle.mode_stack.specs.Stack.{top}
-use Rattle.fault_service.specs.Delivery.{protected_delivery}
-use Rattle.fault_service.specs.Return.{exception_frame_pop, exception_return, is_exception, result_of_exception_pop}
-use Rattle.fault_service.specs.Worlds.{world_exception_return, world_protected_delivery}
-use Rattle.fault_service.proofs.MemoryLaws.{is_delivered}
-use Rattle.fault_service.proofs.Plans.{Restores, pop_restores}
-use Rattle.fault_service.proofs.RoundTrip.{calls_kept, delivered_calls}
+use Rattle.fault_service.specs.{Delivery.{protected_delivery}, Return.{exception_frame_pop, exception_return, is_exception}}
+use Rattle.fault_service.specs.{Return.{result_of_exception_pop}, Worlds.{world_exception_return, world_protected_delivery}}
+use Rattle.fault_service.proofs.{MemoryLaws.{is_delivered}, Plans.{Restores, pop_restores}, RoundTrip.{calls_kept, delivered_calls}}
 use Rattle.fault_service.proofs.SoundAnswers.{sound_delivery, sound_return}
+use Rattle.mode_stack.proofs.LastRecord.{but_last, split_last}
+use Rattle.client_world.specs.declared.outcome.Exit.TheVariants as exits
 
 pub sound_world_delivery : (w u : World) (f : Fault) → IsSound w → w.mode ≡ Protected → world_protected_delivery w f ≡ Ok u → IsSound u
 unfolding world_protected_delivery
@@ -54,20 +46,6 @@ pub record Popped (calls others : List Record) : Type 0 where
   pub code : ℕ
   pub top_is : slice_get calls (length calls - 1) ≡ Some (Exc number code)
   pub is : calls ≡ others ++ Exc number code ∷ []
-
-abbrev but_last : List Record → List Record
-but_last calls = take (length calls - 1) calls
-
-last_is : (x : Record) (xs : List Record) (r : Record) → slice_get (x ∷ xs) (length xs) ≡ Some r →
-    x ∷ xs ≡ take (length xs) (x ∷ xs) ++ r ∷ []
-last_is x [] r e = let same : x ≡ r = cc in rw same refl
-last_is x (y ∷ xs) r e = ap (λ (ys : List Record). x ∷ ys) (last_is y xs r e)
-
-split_last : (calls : List Record) (r : Record) → slice_get calls (length calls - 1) ≡ Some r → calls ≡ but_last calls ++ r ∷ []
-split_last [] r e = absurd cc
-split_last (x ∷ xs) r e =
-    let less : length (x ∷ xs) - 1 ≡ length xs = omega arith in
-    last_is x xs r (ap (slice_get (x ∷ xs)) (sym less) ∙ e) ∙ ap (λ (n : ℕ). take n (x ∷ xs) ++ r ∷ []) (sym less)
 
 popped_by : (calls : List Record) (o : Option Record) → slice_get calls (length calls - 1) ≡ o → is_exception o ≡ true →
     Popped calls (but_last calls)

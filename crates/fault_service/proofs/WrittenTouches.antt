@@ -1,44 +1,29 @@
 -- What a client instruction writes it touches, and every place that it or its software interrupt writes is the client's.
 use Rattle.std.proofs.Common.{◌≡◌, ◌∙◌, ℕ, true, List, [], ◌∷◌, ◌++◌, slice_index_or, refl, sym, ap, subst, Option, None, Some, Result, Ok}
-use Rattle.std.proofs.Common.{Err, arith}
+use Rattle.std.proofs.{Common.{Err, arith}, lemmas.List.{get_or_default}, lemmas.List.Elements.{All-append, All-contains_itself, All-nil}}
+use Rattle.std.proofs.lemmas.List.Elements.{All-weaker, Contains-append_left, Contains-append_right}
 use Rattle.std.specs.Prelude.{All, Contains}
-use Rattle.std.proofs.lemmas.List.{get_or_default}
-use Rattle.std.proofs.lemmas.List.Elements.{All-append, All-contains_itself, All-nil, All-weaker, Contains-append_left}
-use Rattle.std.proofs.lemmas.List.Elements.{Contains-append_right}
-use Rattle.client_world.specs.declared.faults.Event.{Event}
-use Rattle.client_world.specs.declared.faults.Event.TheVariants.{Fault as fault, Soft}
-use Rattle.client_world.specs.declared.faults.Fault.{Fault}
-use Rattle.client_world.specs.declared.place.Place.{Place}
-use Rattle.client_world.specs.declared.place.Place.TheVariants.{Dos, Block, Host, Nothing}
-use Rattle.client_world.specs.declared.registers.Mode.{Mode}
-use Rattle.client_world.specs.declared.registers.Mode.TheVariants.{Real, Protected}
-use Rattle.client_world.specs.declared.registers.Regs.{Regs}
-use Rattle.client_world.specs.declared.segments.SegReg.{SegReg}
-use Rattle.client_world.specs.declared.segments.SegReg.TheVariants.{Ss}
-use Rattle.client_world.specs.Access.{IsHeld, access, segment_base}
-use Rattle.client_world.specs.Selector.{Row}
-use Rattle.client_world.specs.World.{World}
+use Rattle.client_world.specs.{declared.faults.Event.{Event}, declared.faults.Event.TheVariants.{Fault as fault, Soft}}
+use Rattle.client_world.specs.{declared.faults.Fault.{Fault}, declared.place.Place.{Place}, declared.place.Place.TheVariants.{Nothing}}
+use Rattle.client_world.specs.{declared.registers.Mode.{Mode}, declared.registers.Mode.TheVariants.{Real, Protected}}
+use Rattle.client_world.specs.{declared.registers.Regs.{Regs}, declared.segments.SegReg.{SegReg}, declared.segments.SegReg.TheVariants.{Ss}}
+use Rattle.client_world.specs.{Access.{IsHeld, access, segment_base}, Selector.{Row}, World.{World}}
 use Rattle.cpu_step.specs.Step.{view_with_next_eip, client_row, client_step, code, after_instruction, has_big_code, step_of}
 use Rattle.cpu_step.specs.Touched.{and_then, touched_by_decoded, touched_by_instruction, touched_by_fetch, places_after_reads, read_places}
 use Rattle.cpu_step.specs.Touched.{touched_by_step, vector_read_places, write_places}
 use Rattle.exec_flow.specs.Interrupts.{interrupt_push}
 use Rattle.interrupts.specs.Delivery.{software_interrupt}
-use Rattle.guest_space.specs.Code.{code_room}
-use Rattle.guest_space.specs.declared.pending.Write.{Write}
-use Rattle.guest_space.specs.Pending.{after_writes, byte_count, first_write_fault, places_of_writes, write_fault}
-use Rattle.guest_space.specs.Transfer.{access_fault, fault_of, places_of_access}
-use Rattle.guest_space.proofs.Machines.{CanWriteAll, held_there}
-use Rattle.guest_space.proofs.OnlyWritten.{write_places as can_write}
+use Rattle.guest_space.specs.{Code.{code_room}, declared.pending.Write.{Write}, Pending.{after_writes, byte_count, first_write_fault}}
+use Rattle.guest_space.specs.{Pending.{places_of_writes, write_fault}, Transfer.{access_fault, fault_of, places_of_access}}
+use Rattle.guest_space.proofs.{Machines.{CanWriteAll, held_there}, OnlyWritten.{write_places as can_write}}
 use Rattle.host_memory.specs.View.{MachineView}
-use Rattle.insn_decode.specs.declared.decoding.Decoded.{Decoded}
-use Rattle.insn_decode.specs.declared.decoding.Decoded.TheVariants.{Whole, More, Invalid}
+use Rattle.insn_decode.specs.{declared.decoding.Decoded.{Decoded}, declared.decoding.Decoded.TheVariants.{Whole, More, Invalid}}
 use Rattle.insn_decode.specs.Decode.{decoded}
 use Rattle.insn_forms.specs.declared.insn.Insn.{Insn}
-use Rattle.insn_plan.specs.Accesses.{with_next_eip}
-use Rattle.insn_plan.specs.Act.{Pending}
-use Rattle.insn_plan.specs.Plan.{after_commit, after_plan, plan_result, with_state}
+use Rattle.insn_plan.specs.{Accesses.{with_next_eip}, Act.{Pending}, Plan.{after_commit, after_plan, plan_result, with_state}}
 use Rattle.insn_plan.specs.Stack.{has_big_stack, with_pushed_number}
 use Rattle.fault_service.specs.StepMemory.{interrupt_places, written_by, written_of, written_places}
+use Rattle.cpu_step.proofs.Held.{held_before}
 
 -- ---- writes none of which is refused
 
@@ -248,13 +233,6 @@ writes_held w (x ∷ xs) =
     All-append (IsHeld w) (places_of_access (access w x.seg x.off (byte_count x.width) true)) (places_of_writes w xs)
     (access_held w (access w x.seg x.off (byte_count x.width) true) (can_write w x.seg x.off (byte_count x.width)))
     (writes_held w xs)
-
--- the instruction pointer has no part in it
-held_before : (w : World) (len : ℕ) (p : Place) → IsHeld (with_next_eip len w) p → IsHeld w p
-held_before w len (Dos at) h = h
-held_before w len (Block number at) h = h
-held_before w len Host h = h
-held_before w len Nothing h = h
 
 moved_held : (w : World) (len : ℕ) (xs : List Write) → All (IsHeld w) (places_of_writes (with_next_eip len w) xs)
 moved_held w len xs =

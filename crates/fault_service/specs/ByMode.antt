@@ -1,15 +1,10 @@
 -- An exception in either mode. Source: own.
 use Rattle.std.specs.declared.result.Result.{Result}
-use Rattle.client_world.specs.declared.faults.Fault.{Fault}
-use Rattle.client_world.specs.declared.outcome.Exit.{Exit}
-use Rattle.client_world.specs.declared.registers.Mode.{Mode}
-use Rattle.client_world.specs.declared.registers.Mode.TheVariants.{Real, Protected}
-use Rattle.client_world.specs.World.{World}
-use Rattle.interrupts.specs.Delivery.{real_delivery}
-use Rattle.interrupts.specs.Worlds.{world_delivery}
+use Rattle.client_world.specs.{declared.faults.Fault.{Fault}, declared.outcome.Exit.{Exit}, declared.registers.Mode.{Mode}}
+use Rattle.client_world.specs.{declared.registers.Mode.TheVariants.{Real, Protected}, World.{World}}
+use Rattle.interrupts.specs.{Delivery.{real_delivery}, Worlds.{world_delivery}}
 use Rattle.host_memory.specs.View.{MachineView}
-use Rattle.fault_service.specs.Delivery.{protected_delivery}
-use Rattle.fault_service.specs.Worlds.{world_protected_delivery}
+use Rattle.fault_service.specs.{Delivery.{protected_delivery}, Worlds.{world_protected_delivery}}
 
 -- the machine after an exception, or the exit
 unfoldable pub delivery : MachineView → Fault → Result MachineView Exit

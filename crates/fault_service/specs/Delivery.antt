@@ -2,31 +2,19 @@
 -- Source: DPMI 0.9, "Exceptions"; where the frame lies, and that an exception whose handler can't be loaded ends the client, is own.
 use Rattle.std.specs.Prelude.{ℕ, ◌-◌, ◌*◌, false, List, [], ◌∷◌, ◌++◌, nat_le, if◌then◌else◌, Ok, Err, Some, None}
 use Rattle.std.specs.declared.result.Result.{Result}
-use Rattle.client_world.specs.declared.calls.Record.TheVariants.{Exc}
-use Rattle.client_world.specs.declared.faults.Fault.{Fault}
-use Rattle.client_world.specs.declared.limits.TheConstants.{GREATEST_DEPTH}
-use Rattle.client_world.specs.declared.memory_map.TheConstants.{ROM_START}
-use Rattle.client_world.specs.declared.outcome.Exit.{Exit}
-use Rattle.client_world.specs.declared.outcome.Exit.TheVariants as exits
-use Rattle.client_world.specs.declared.registers.Regs.{Regs}
-use Rattle.client_world.specs.declared.segments.FarPtr.{FarPtr}
-use Rattle.client_world.specs.declared.segments.SegReg.TheVariants.{Cs}
-use Rattle.client_world.specs.declared.selectors.TheConstants.{HOST_CODE, HOST_STACKS}
-use Rattle.client_world.specs.declared.traps.TheConstants.{EXCEPTION_RETURN_TRAP}
-use Rattle.client_world.specs.Loading.{load_fault}
-use Rattle.client_world.specs.Registers.{flags_image}
-use Rattle.client_world.specs.Selector.{selector_of}
-use Rattle.client_world.specs.World.{World, depth}
-use Rattle.exec_flow.specs.FarTransfers.{code_selector}
-use Rattle.exec_flow.specs.Interrupts.{frame_bits}
+use Rattle.client_world.specs.{declared.calls.Record.TheVariants.{Exc}, declared.faults.Fault.{Fault}}
+use Rattle.client_world.specs.{declared.limits.TheConstants.{GREATEST_DEPTH}, declared.memory_map.TheConstants.{ROM_START}}
+use Rattle.client_world.specs.{declared.outcome.Exit.{Exit}, declared.registers.Regs.{Regs}, declared.segments.FarPtr.{FarPtr}}
+use Rattle.client_world.specs.{declared.segments.SegReg.TheVariants.{Cs}, declared.selectors.TheConstants.{HOST_CODE, HOST_STACKS}}
+use Rattle.client_world.specs.{declared.traps.TheConstants.{EXCEPTION_RETURN_TRAP}, Loading.{load_fault}, Registers.{flags_image}}
+use Rattle.client_world.specs.{Selector.{selector_of}, World.{World, depth}}
+use Rattle.exec_flow.specs.{FarTransfers.{code_selector}, Interrupts.{frame_bits}}
 use Rattle.interrupts.specs.Delivery.{exit_of_fault}
-use Rattle.guest_space.specs.Far.{after_far_write}
-use Rattle.guest_space.specs.Pending.{byte_count, number_bytes}
-use Rattle.guest_space.specs.VectorLists.{vector_at}
+use Rattle.guest_space.specs.{Far.{after_far_write}, Pending.{byte_count, number_bytes}, VectorLists.{vector_at}}
 use Rattle.host_memory.specs.View.{MachineView}
 use Rattle.insn_plan.specs.Plan.{with_state}
-use Rattle.mode_stack.specs.Frames.{frame_address}
-use Rattle.mode_stack.specs.Stack.{after_push}
+use Rattle.mode_stack.specs.{Frames.{frame_address}, Stack.{after_push}}
+use Rattle.client_world.specs.declared.outcome.Exit.TheVariants as exits
 
 -- the items of the frame, from the stack pointer up: the return address of the handler, the error code, and the client's EIP, CS, flags
 -- image with the virtual interrupt flag, ESP and SS

@@ -1,19 +1,11 @@
 -- Which bytes of the memory a delivery and a return change. Source: own.
 use Rattle.std.specs.Prelude.{◌≡◌, ℕ, ◌+◌, ◌-◌, ◌*◌, ◌<◌, ◌≤◌, Bool, true, List, [], length, slice_index_or, Ok}
-use Rattle.client_world.specs.declared.faults.Fault.{Fault}
-use Rattle.client_world.specs.declared.memory_map.TheConstants.{PROTECTED_STACKS, PROTECTED_STACK_SIZE}
-use Rattle.client_world.specs.declared.place.Place.{Place}
-use Rattle.client_world.specs.declared.place.Place.TheVariants.{Dos, Nothing}
-use Rattle.client_world.specs.Access.{far_access, may_touch, place_of}
-use Rattle.client_world.specs.Soundness.{IsSound}
-use Rattle.client_world.specs.World.{World, depth}
-use Rattle.guest_space.specs.Records.{OnlyAtAndRow}
-use Rattle.guest_space.specs.Transfer.{places_of_access}
-use Rattle.host_memory.specs.HoldsWorld.{HoldsWorld}
-use Rattle.host_memory.specs.Law.{StandsAt}
-use Rattle.host_memory.specs.View.{MachineView}
-use Rattle.fault_service.specs.Delivery.{exception_frame_start, exception_frame_size, protected_delivery}
-use Rattle.fault_service.specs.Return.{exception_return}
+use Rattle.client_world.specs.{declared.faults.Fault.{Fault}, declared.memory_map.TheConstants.{PROTECTED_STACKS, PROTECTED_STACK_SIZE}}
+use Rattle.client_world.specs.{declared.place.Place.{Place}, declared.place.Place.TheVariants.{Dos, Nothing}, Access.{far_access}}
+use Rattle.client_world.specs.{Access.{may_touch, place_of}, Soundness.{IsSound}, World.{World, depth}}
+use Rattle.guest_space.specs.{Records.{OnlyAtAndRow}, Transfer.{places_of_access}}
+use Rattle.host_memory.specs.{HoldsWorld.{HoldsWorld}, Law.{StandsAt}, View.{MachineView}}
+use Rattle.fault_service.specs.{Delivery.{exception_frame_start, exception_frame_size, protected_delivery}, Return.{exception_return}}
 
 -- what every machine promises of its view (`Machine::ram`): its world is sound, its bytes hold that world, and the byte of each place that
 -- the client may touch is at the place's address, which lies in none of the host's frames

@@ -1,25 +1,16 @@
 -- The return from an exception through the host's trap: the handler has popped its return address, and the rest of the frame is popped.
 -- Source: DPMI 0.9, "Exceptions"; which exit each refusal is, is own.
-use Rattle.std.specs.Prelude.{ℕ, Bool, true, false, [], if◌then◌else◌, Ok, Err, Some, None}
-use Rattle.std.specs.declared.option.Option.{Option}
+use Rattle.std.specs.{Prelude.{ℕ, Bool, true, false, [], if◌then◌else◌, Ok, Err, Some, None}, declared.option.Option.{Option}}
 use Rattle.std.specs.declared.result.Result.{Result}
-use Rattle.client_world.specs.declared.calls.Record.{Record}
-use Rattle.client_world.specs.declared.calls.Record.TheVariants.{Sim, Back, Exc}
-use Rattle.client_world.specs.declared.faults.Event.{Event}
-use Rattle.client_world.specs.declared.outcome.Exit.{Exit}
-use Rattle.client_world.specs.declared.outcome.Exit.TheVariants as exits
-use Rattle.client_world.specs.declared.registers.Regs.{Regs}
-use Rattle.client_world.specs.declared.registers.TheConstants.{INTERRUPT_BIT}
-use Rattle.client_world.specs.declared.segments.SegReg.TheVariants.{Cs, Ss}
-use Rattle.client_world.specs.Loading.{load_fault}
-use Rattle.client_world.specs.Registers.{flags_of_image, has_bit, low_half}
-use Rattle.client_world.specs.World.{World}
+use Rattle.client_world.specs.{declared.calls.Record.{Record}, declared.calls.Record.TheVariants.{Sim, Back, Exc}}
+use Rattle.client_world.specs.{declared.faults.Event.{Event}, declared.outcome.Exit.{Exit}, declared.registers.Regs.{Regs}}
+use Rattle.client_world.specs.{declared.registers.TheConstants.{INTERRUPT_BIT}, declared.segments.SegReg.TheVariants.{Cs, Ss}}
+use Rattle.client_world.specs.{Loading.{load_fault}, Registers.{flags_of_image, has_bit, low_half}, World.{World}}
 use Rattle.exec_flow.specs.Interrupts.{frame_bits}
 use Rattle.host_memory.specs.View.{MachineView}
-use Rattle.insn_plan.specs.Act.{Act, ◌>>=◌, Pending, done, unless_fault}
-use Rattle.insn_plan.specs.Plan.{plan_result, after_plan}
-use Rattle.insn_plan.specs.Stack.{stack_item}
+use Rattle.insn_plan.specs.{Act.{Act, ◌>>=◌, Pending, done, unless_fault}, Plan.{plan_result, after_plan}, Stack.{stack_item}}
 use Rattle.mode_stack.specs.Stack.{after_pop, top}
+use Rattle.client_world.specs.declared.outcome.Exit.TheVariants as exits
 
 -- the registers with those of a frame
 abbrev pub frame_regs : Regs → ℕ → ℕ → ℕ → ℕ → ℕ → Regs

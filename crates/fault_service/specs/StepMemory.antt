@@ -1,22 +1,15 @@
 -- Which bytes of the memory the client's next instruction changes: those of the places that it writes, or to which its software interrupt
 -- pushes. An exception of real mode is such an interrupt. Source: own.
-use Rattle.std.specs.Prelude.{◌≡◌, ℕ, List, [], Ok, Err}
-use Rattle.std.specs.declared.result.Result.{Result}
-use Rattle.client_world.specs.declared.faults.Event.{Event}
-use Rattle.client_world.specs.declared.faults.Fault.{Fault}
-use Rattle.client_world.specs.declared.place.Place.{Place}
-use Rattle.client_world.specs.World.{World}
+use Rattle.std.specs.{Prelude.{◌≡◌, ℕ, List, [], Ok, Err}, declared.result.Result.{Result}}
+use Rattle.client_world.specs.{declared.faults.Event.{Event}, declared.faults.Fault.{Fault}, declared.place.Place.{Place}, World.{World}}
 use Rattle.cpu_step.specs.Step.{client_row, client_step, code, has_big_code}
 use Rattle.exec_flow.specs.Interrupts.{interrupt_push}
 use Rattle.interrupts.specs.Delivery.{real_delivery, software_interrupt}
 use Rattle.guest_space.specs.Pending.{places_of_writes}
 use Rattle.host_memory.specs.View.{MachineView, OnlyAt}
-use Rattle.insn_decode.specs.declared.decoding.Decoded.{Decoded}
-use Rattle.insn_decode.specs.declared.decoding.Decoded.TheVariants.{Whole, More, Invalid}
+use Rattle.insn_decode.specs.{declared.decoding.Decoded.{Decoded}, declared.decoding.Decoded.TheVariants.{Whole, More, Invalid}}
 use Rattle.insn_decode.specs.Decode.{decoded}
-use Rattle.insn_plan.specs.Accesses.{with_next_eip}
-use Rattle.insn_plan.specs.Act.{Pending}
-use Rattle.insn_plan.specs.Plan.{plan_result}
+use Rattle.insn_plan.specs.{Accesses.{with_next_eip}, Act.{Pending}, Plan.{plan_result}}
 
 -- the places that a plan writes
 abbrev pub written_by : World → Result Pending Event → List Place

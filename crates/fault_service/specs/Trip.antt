@@ -1,18 +1,12 @@
 -- A delivery and the return from it: at the handler the frame lies at SS:ESP; after the handler has popped its return address, the return
 -- restores what the delivery replaced, cut to the width of the frame's items. Source: DPMI 0.9, "Exceptions".
 use Rattle.std.specs.Prelude.{◌≡◌, ℕ, ◌+◌, ◌*◌, ◌%◌, ◌^◌, Bool, true, false, nat_eq, if◌then◌else◌, None, Ok}
-use Rattle.client_world.specs.declared.faults.Fault.{Fault}
-use Rattle.client_world.specs.declared.registers.Mode.TheVariants.{Protected}
-use Rattle.client_world.specs.declared.registers.Regs.{Regs}
-use Rattle.client_world.specs.declared.segments.SegReg.TheVariants.{Cs, Ss}
-use Rattle.client_world.specs.declared.selectors.TheConstants.{HOST_STACKS}
-use Rattle.client_world.specs.Loading.{load_fault}
-use Rattle.client_world.specs.Selector.{selector_of}
-use Rattle.client_world.specs.Soundness.{IsSound, HasSegments}
-use Rattle.client_world.specs.World.{World}
+use Rattle.client_world.specs.{declared.faults.Fault.{Fault}, declared.registers.Mode.TheVariants.{Protected}}
+use Rattle.client_world.specs.{declared.registers.Regs.{Regs}, declared.segments.SegReg.TheVariants.{Cs, Ss}}
+use Rattle.client_world.specs.{declared.selectors.TheConstants.{HOST_STACKS}, Loading.{load_fault}, Selector.{selector_of}}
+use Rattle.client_world.specs.{Soundness.{IsSound, HasSegments}, World.{World}}
 use Rattle.exec_flow.specs.Interrupts.{frame_bits}
-use Rattle.guest_space.specs.Pending.{byte_count}
-use Rattle.guest_space.specs.Transfer.{read_result}
+use Rattle.guest_space.specs.{Pending.{byte_count}, Transfer.{read_result}}
 use Rattle.host_memory.specs.View.{MachineView}
 use Rattle.insn_plan.specs.Plan.{with_state}
 use Rattle.mode_stack.specs.Stack.{after_pop}

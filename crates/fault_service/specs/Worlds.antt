@@ -1,11 +1,8 @@
 -- The same of worlds alone: what a delivery and a return make of a world. Which bytes hold it doesn't matter. Source: own.
 use Rattle.std.specs.declared.result.Result.{Result}
-use Rattle.client_world.specs.declared.faults.Fault.{Fault}
-use Rattle.client_world.specs.declared.outcome.Exit.{Exit}
-use Rattle.client_world.specs.World.{World}
+use Rattle.client_world.specs.{declared.faults.Fault.{Fault}, declared.outcome.Exit.{Exit}, World.{World}}
 use Rattle.interrupts.specs.Worlds.{on_world}
-use Rattle.fault_service.specs.Delivery.{protected_delivery}
-use Rattle.fault_service.specs.Return.{exception_return}
+use Rattle.fault_service.specs.{Delivery.{protected_delivery}, Return.{exception_return}}
 
 -- the world after an exception of protected mode, or the exit
 unfoldable pub world_protected_delivery : World → Fault → Result World Exit

@@ -1,7 +1,6 @@
 // Exceptions in either mode.
 ghost use Rattle.std.specs.Prelude.{◌≡◌, Ok, Err, MatchResult};
-ghost use Rattle.client_world.specs.declared.faults.Fault.{Fault};
-ghost use Rattle.client_world.specs.Soundness.{IsSound};
+ghost use Rattle.client_world.specs.{declared.faults.Fault.{Fault}, Soundness.{IsSound}};
 ghost use Rattle.host_memory.specs.View.{MachineView};
 ghost use Rattle.fault_service.specs.ByMode.{delivery, world_delivery_in};
 

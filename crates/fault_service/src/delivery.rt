@@ -1,10 +1,8 @@
 // Exceptions in protected mode.
 ghost use Rattle.std.specs.Prelude.{◌≡◌, ◌≢◌, ◌<◌, None, Ok, Err, MatchResult};
-ghost use Rattle.client_world.specs.declared.limits.TheConstants.{GREATEST_DEPTH};
-ghost use Rattle.client_world.specs.declared.registers.Mode.TheVariants.{Protected};
+ghost use Rattle.client_world.specs.{declared.limits.TheConstants.{GREATEST_DEPTH}, declared.registers.Mode.TheVariants.{Protected}};
 ghost use Rattle.client_world.specs.World.{depth};
-ghost use Rattle.guest_space.specs.VectorLists.{vector_at};
-ghost use Rattle.guest_space.specs.Far.{after_far_write};
+ghost use Rattle.guest_space.specs.{VectorLists.{vector_at}, Far.{after_far_write}};
 ghost use Rattle.fault_service.specs.Delivery.{after_delivery, exception_frame, exception_frame_start, exception_frame_size};
 ghost use Rattle.fault_service.specs.Delivery.{protected_delivery};
 

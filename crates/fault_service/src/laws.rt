@@ -1,23 +1,15 @@
 // What holds of every delivery and every return. Each function has nothing to do: its contract is the law.
 ghost use Rattle.std.specs.Prelude.{◌≡◌, ◌≢◌, ◌<◌, ℕ, All, Contains, None, Ok, Err};
-ghost use Rattle.client_world.specs.declared.faults.Event.TheVariants.{Soft};
-ghost use Rattle.client_world.specs.declared.faults.Fault.{Fault};
-ghost use Rattle.client_world.specs.declared.registers.Mode.TheVariants.{Protected};
-ghost use Rattle.client_world.specs.declared.limits.TheConstants.{GREATEST_DEPTH};
-ghost use Rattle.client_world.specs.Access.{IsHeld};
-ghost use Rattle.client_world.specs.Soundness.{IsSound};
-ghost use Rattle.client_world.specs.World.{World, depth};
-ghost use Rattle.cpu_step.specs.Step.{client_step};
-ghost use Rattle.cpu_step.specs.Touched.{touched_by_step};
+ghost use Rattle.client_world.specs.{declared.faults.Event.TheVariants.{Soft}, declared.faults.Fault.{Fault}};
+ghost use Rattle.client_world.specs.{declared.registers.Mode.TheVariants.{Protected}, declared.limits.TheConstants.{GREATEST_DEPTH}};
+ghost use Rattle.client_world.specs.{Access.{IsHeld}, Soundness.{IsSound}, World.{World, depth}};
+ghost use Rattle.cpu_step.specs.{Step.{client_step}, Touched.{touched_by_step}};
 ghost use Rattle.host_memory.specs.View.{MachineView};
-ghost use Rattle.fault_service.specs.Delivery.{protected_delivery};
-ghost use Rattle.fault_service.specs.Return.{exception_return};
-ghost use Rattle.fault_service.specs.StepMemory.{InterruptLaw, RealDeliveryLaw, StepLaw, interrupt_places, written_places};
-ghost use Rattle.fault_service.specs.Trip.{FrameLaw, RecordsLaw, TripLaw};
-ghost use Rattle.fault_service.specs.Worlds.{world_exception_return, world_protected_delivery};
-ghost use Rattle.interrupts.specs.Delivery.{software_interrupt};
-ghost use Rattle.interrupts.specs.Worlds.{world_of_result};
-ghost use Rattle.fault_service.specs.Memory.{DeliveryLaw, IsMachineView, ReturnLaw, LiesInStack};
+ghost use Rattle.fault_service.specs.{Delivery.{protected_delivery}, Return.{exception_return}, StepMemory.{InterruptLaw, RealDeliveryLaw}};
+ghost use Rattle.fault_service.specs.{StepMemory.{StepLaw, interrupt_places, written_places}, Trip.{FrameLaw, RecordsLaw, TripLaw}};
+ghost use Rattle.fault_service.specs.{Worlds.{world_exception_return, world_protected_delivery}, Memory.{DeliveryLaw, IsMachineView}};
+ghost use Rattle.fault_service.specs.Memory.{ReturnLaw, LiesInStack};
+ghost use Rattle.interrupts.specs.{Delivery.{software_interrupt}, Worlds.{world_of_result}};
 
 use client_world::a_flags_image_gives_its_flags_back;
 use guest_space::Machine;

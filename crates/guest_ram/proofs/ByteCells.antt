@@ -1,23 +1,20 @@
 -- One byte taken out of the block's bytes, and put back.
 use Rattle.std.proofs.Common.{◌≡◌, ℕ, ◌+◌, ◌<◌, List, [], ◌∷◌, ◌++◌, length, get_or, set, sym, refl, ◌∙◌, length-set, w8, add-zero, arith}
+use Rattle.std.proofs.Common.{zero, suc}
 use seplogic.Ra.Ura.{Ura}
 use base.Fraction.{full_share}
 use mir.Syntax.{ty_int}
 use mir.Val.{vint}
 use base.Logic.{ent}
-use base.Fml.{Fml, fat}
-use types.Logic.{Logic}
-use types.Kit.{‵, ◌⊛◌, ⋆, ◌$◌, ◌∵◌, !, qed, by, move, use1, split, join, fsplit, fjoin, feq_i, feq_l, rewrite, done}
+use base.Fml.{Fml, fat, Lft}
+use types.Logic.{Logic, sem}
+use types.Kit.{‵, ◌⊛◌, ⋆, ◌$◌, ◌∵◌, !, qed, by, move, use1, split, join, fsplit, fjoin, feq_i, feq_l, rewrite, done, keep, drop, use2}
 use types.Share.{arr_parts}
 use denote.Builtin.{u8}
 use denote.Array.{Array}
 use denote.ArrayMemory.{Array-apart, Array-whole}
 use denote.Memory.{part_at, shares, shared_of, each_shared, hidden_shr}
 use denote.Opens.{hide}
-use base.Fml.{Lft}
-use types.Logic.{sem}
-use types.Kit.{keep, drop, use2}
-use Rattle.std.proofs.Common.{zero, suc}
 use native.Mathlib.Nat.{not-suc-le-zero, le_of_suc-le-suc}
 use denote.Plain.{uint_in, uint_out}
 use denote.Index.{row, others, takes, puts, place_byte, place as nth}

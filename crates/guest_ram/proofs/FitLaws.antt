@@ -1,8 +1,7 @@
 -- Lists of bytes: what is at a place fits, and a list with another byte is one too.
 use Rattle.std.proofs.Common.{◌≡◌, ℕ, ◌+◌, ◌<◌, true, nat_lt, List, [], ◌∷◌, zero, suc, refl, set, replicate, lit<, arith}
 use Rattle.std.proofs.lemmas.Bool.{and_parts, and_from, ltb-true, lt-ltb}
-use Rattle.guest_ram.specs.Bytes.{AreBytes, all_fit, put}
-use Rattle.guest_ram.specs.Listed.{zeros, copies}
+use Rattle.guest_ram.specs.{Bytes.{AreBytes, all_fit, put}, Listed.{zeros, copies}}
 
 pub fits_at : (xs : List ℕ) → all_fit xs ≡ true → AreBytes xs
 fits_at [] h at = omega arith

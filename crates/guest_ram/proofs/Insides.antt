@@ -10,14 +10,10 @@ use mir.Syntax.{w32}
 use denote.Struct.Owning.{shape, to}
 use denote.Struct.Struct.{Struct}
 use Rattle.std.proofs.Common.{◌≡◌, ℕ, ◌*◌, ◌<◌, ◌≤◌, ◌^◌, List, [], ◌∷◌, refl, length, set, length-set, sym, ◌∙◌, ap, subst}
-use Rattle.guest_ram.proofs.FitLaws.{fit-set, fit-put, fit-copies}
-use Rattle.guest_ram.proofs.PutLaws.{length-put}
-use Rattle.guest_ram.specs.Bytes.{put}
-use Rattle.guest_ram.specs.Listed.{copies}
-use Rattle.guest_ram.specs.declared.ram.TheConstants.{FRAME_SIZE, MAX_FRAMES}
+use Rattle.guest_ram.proofs.{FitLaws.{fit-set, fit-put, fit-copies}, PutLaws.{length-put}, ram.Ram.TheInside.TheLaws.{lowers}}
+use Rattle.guest_ram.specs.{Bytes.{put}, Listed.{copies}, declared.ram.TheConstants.{FRAME_SIZE, MAX_FRAMES}}
 use Rattle.guest_ram.specs.declared.ram.Ram.TheInside.{Inside}
 use Rattle.guest_ram.specs.contracts.ram.Ram.TheInside as IN
-use Rattle.guest_ram.proofs.ram.Ram.TheInside.TheLaws.{lowers}
 
 abbrev pub Held : List ℕ → Type 0
 Held h = (a : Inside) × ((a.bytes ≡ h) × (length a.bytes ≤ MAX_FRAMES * FRAME_SIZE))

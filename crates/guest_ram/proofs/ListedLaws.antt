@@ -1,7 +1,7 @@
 -- The length of a list given by a function, what is at each place, and when two are the same.
-use Rattle.std.proofs.Common.{◌≡◌, ◌≢◌, ℕ, ◌<◌, List, length, get_or, set, ◌∙◌, sym, arith, zero-add, get_or-set_same, get_or-set_other}
-use Rattle.std.proofs.Common.{length-set}
-use Rattle.std.proofs.lemmas.List.{same_lists, length-replicate, get_or-replicate}
+use Rattle.std.proofs.Common.{◌≡◌, ◌≢◌, ℕ, ◌+◌, ◌<◌, List, [], ◌∷◌, ◌++◌, length, get_or, set, ◌∙◌, sym, arith, zero-add, get_or-set_same}
+use Rattle.std.proofs.{Common.{get_or-set_other, length-append, length-set}, lemmas.Grind.{same_number_lists}, lemmas.List.{same_lists}}
+use Rattle.std.proofs.lemmas.List.{get_or_append_left, get_or-append_right, length-replicate, get_or-replicate}
 use Rattle.std.proofs.lemmas.List.FromFn.{length-map-range_with_len, get_or-map-range_with_len}
 use Rattle.guest_ram.specs.Listed.{listed, zeros, copies}
 
@@ -21,6 +21,10 @@ is_listed xs n f e h = same_lists xs (listed n f) (e ∙ sym (length-listed n f)
 
 pub same_listed : {X : Type 0} (n : ℕ) (f g : ℕ → X) → ((k : ℕ) → k < n → f k ≡ g k) → listed n f ≡ listed n g
 same_listed n f g h = is_listed (listed n f) n g (length-listed n f) (λ k d l. at_listed n f k d l ∙ h k l)
+
+-- one more in the list
+pub listed_next : (n : ℕ) (f : ℕ → ℕ) → listed (n + 1) f ≡ listed n f ++ f n ∷ []
+listed_next n f = grind (arith, at_listed, get_or-append_right, get_or_append_left, length-append, length-listed, same_number_lists)
 
 -- where g differs from f at one place alone
 pub listed-set : {X : Type 0} (n : ℕ) (f g : ℕ → X) (i : ℕ) (v : X) → i < n → g i ≡ v → ((k : ℕ) → k < n → k ≢ i → g k ≡ f k) →

@@ -1,11 +1,8 @@
 -- What a run of bytes that is put changes, and what it leaves.
 use Rattle.std.proofs.Common.{◌≡◌, ℕ, ◌+◌, ◌⊎◌, inl, inr, add_assoc, ◌<◌, ◌≤◌, ◌≢◌, List, [], ◌∷◌, length, get_or, set, take, drop, refl}
 use Rattle.std.proofs.Common.{ap, ◌∙◌, sym, arith, get_or-set_same, get_or-set_other, length-set, zero-add, suc, zero, ◌++◌, add-one}
-use Rattle.std.proofs.Common.{append_assoc}
-use Rattle.std.proofs.lemmas.List.{drop-set-add, get_or-take, get_or-drop, length-take, length-drop, take_at, drop-drop}
-use Rattle.std.proofs.lemmas.Grind.{same_number_lists}
-use Rattle.std.proofs.lemmas.List.Edits.{sets, sets-eq}
-use borrow.Rule.Slice.PartMut.{put_mid}
+use Rattle.std.proofs.{Common.{append_assoc}, lemmas.List.{drop-set-add, get_or-take, get_or-drop, length-take, length-drop}}
+use Rattle.std.proofs.{lemmas.Grind.{same_number_lists}, lemmas.List.Edits.{sets, sets-eq}}
 use Rattle.guest_ram.specs.Bytes.{put, region, dword, dword_bytes}
 
 pub length-put : (b : List ℕ) (at : ℕ) (xs : List ℕ) → length (put b at xs) ≡ length b
@@ -19,12 +16,6 @@ put-sets b at (x ∷ xs) = put-sets (set b at x) (at + 1) xs ∙ ap (λ (j : ℕ
 -- a run that is put is between what was before it and after it
 pub put_is : (b : List ℕ) (at : ℕ) (xs : List ℕ) → at + length xs ≤ length b → put b at xs ≡ take at b ++ (xs ++ drop (at + length xs) b)
 put_is b at xs room = put-sets b at xs ∙ sets-eq xs b at room ∙ append_assoc (take at b) xs (drop (at + length xs) b)
-
--- what a write through a part of a vector leaves is a run that is put
-pub put_part : (b : List ℕ) (at : ℕ) (xs : List ℕ) (old part : List ℕ) (long k : ℕ) →
-    old ≡ b → part ≡ xs → long ≡ length b → k ≡ length xs → at + length xs ≤ length b →
-    take long (put_mid at k old part ++ drop (length (put_mid at k old part)) b) ≡ put b at xs
-put_part b at xs old part long k e f g h room = grind (arith, drop-drop, length-put, put_is, take_at)
 
 pub put_below : (b : List ℕ) (at : ℕ) (xs : List ℕ) (k : ℕ) → k < at → get_or (put b at xs) k 0 ≡ get_or b k 0
 put_below b at [] k h = refl
@@ -46,6 +37,10 @@ put_within b at (x ∷ xs) zero k room h e =
     ∙ get_or-set_same b at x 0 (omega arith)
 put_within b at (x ∷ xs) (suc i) k room h e =
     put_within (set b at x) (at + 1) xs i k (omega (arith, length-set b at x)) (omega arith) (omega arith)
+
+-- as many bytes as there are, put at the beginning, are all of them
+pub put_all : (b xs : List ℕ) → length xs ≡ length b → put b 0 xs ≡ xs
+put_all b xs size = grind (arith, length-put, put_within, same_number_lists)
 
 pub length-region : (b : List ℕ) (lo n : ℕ) → lo + n ≤ length b → length (region b lo n) ≡ n
 unfolding region
@@ -98,7 +93,7 @@ pub dword-region : (b : List ℕ) (lo n k : ℕ) → k + 4 ≤ n → dword (regi
 dword-region b lo n k h = same_dword (region b lo n) b k (lo + k) (λ i l.
     at_region b lo n (k + i) (omega arith) ∙ ap (λ (j : ℕ). get_or b j 0) (sym (add_assoc lo k i)))
 
-dword_back : (v : ℕ) → dword (dword_bytes v) 0 ≡ v
+pub dword_back : (v : ℕ) → dword (dword_bytes v) 0 ≡ v
 unfolding dword
 dword_back v = grind arith
 

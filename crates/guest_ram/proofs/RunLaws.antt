@@ -1,18 +1,16 @@
 -- A run that is put or taken byte by byte: one more byte, at its end or before it.
 use Rattle.std.proofs.Common.{◌≡◌, ◌≢◌, ℕ, ◌+◌, ◌*◌, ◌/◌, ◌%◌, ◌<◌, List, [], ◌∷◌, ◌++◌, length, get_or, set, take, drop, replicate, refl}
-use Rattle.std.proofs.Common.{ap, ◌∙◌, sym, arith, zero, suc, add-zero, add-one}
-use Rattle.std.proofs.lemmas.List.{set_comm, get_or-drop, replicate-append-replicate, length-replicate, length-drop}
-use Rattle.std.proofs.Math.Seq.{drop-cons}
-use Rattle.guest_ram.specs.Bytes.{AreBytes, word_of, with_word, dword, dword_bytes, put, region}
-use Rattle.guest_ram.specs.Listed.{copies}
+use Rattle.std.proofs.{Common.{ap, ◌∙◌, sym, arith, zero, suc, add-zero, add-one}, lemmas.List.{set_comm, get_or-drop}}
+use Rattle.std.proofs.{lemmas.List.{replicate-append-replicate, length-replicate, length-drop}, Math.Seq.{drop-cons}}
+use Rattle.guest_ram.specs.{Bytes.{AreBytes, word_of, with_word, dword, dword_bytes, put, region}, Listed.{copies}}
 use Rattle.guest_ram.proofs.PutLaws.{length-region, put_four}
 
 -- one more byte at the end
-pub put_more : (b : List ℕ) (at : ℕ) (xs : List ℕ) (x : ℕ) → put b at (xs ++ x ∷ []) ≡ set (put b at xs) (at + length xs) x
-put_more b at [] x = ap (λ (i : ℕ). set b i x) (sym (add-zero at))
-put_more b at (y ∷ ys) x =
+pub put-append_one : (b : List ℕ) (at : ℕ) (xs : List ℕ) (x : ℕ) → put b at (xs ++ x ∷ []) ≡ set (put b at xs) (at + length xs) x
+put-append_one b at [] x = ap (λ (i : ℕ). set b i x) (sym (add-zero at))
+put-append_one b at (y ∷ ys) x =
     let there : at + 1 + length ys ≡ at + suc (length ys) = omega arith in
-    put_more (set b at y) (at + 1) ys x ∙ ap (λ (i : ℕ). set (put (set b at y) (at + 1) ys) i x) there
+    put-append_one (set b at y) (at + 1) ys x ∙ ap (λ (i : ℕ). set (put (set b at y) (at + 1) ys) i x) there
 
 -- one more byte before it
 pub put_before : (b : List ℕ) (at k : ℕ) (xs : List ℕ) (x : ℕ) → at < k → set (put b k xs) at x ≡ put (set b at x) k xs
@@ -40,7 +38,7 @@ region_before b lo i h = grind (arith, add-one, drop-cons)
 -- the run of one more byte that is put as it stands in the old list
 pub moved_up : (b : List ℕ) (from to i : ℕ) → from + i < length b →
     set (put b to (region b from i)) (to + i) (get_or b (from + i) 0) ≡ put b to (region b from (i + 1))
-moved_up b from to i h = grind (arith, length-region, put_more, region_more)
+moved_up b from to i h = grind (arith, length-region, put-append_one, region_more)
 
 pub moved_down : (b : List ℕ) (from to i : ℕ) → from < length b →
     set (put b (to + 1) (region b (from + 1) i)) to (get_or b from 0) ≡ put b to (region b from (i + 1))
@@ -50,7 +48,7 @@ pub copies_more : (b : List ℕ) (at i v : ℕ) → set (put b at (copies i v)) 
 unfolding copies
 copies_more b at i v =
     ap (λ (k : ℕ). set (put b at (replicate i v)) (at + k) v) (sym (length-replicate i v))
-    ∙ sym (put_more b at (replicate i v) v)
+    ∙ sym (put-append_one b at (replicate i v) v)
     ∙ ap (put b at) (replicate-append-replicate i 1 v)
 
 pub no_copies : (b : List ℕ) (at v : ℕ) → put b at (copies 0 v) ≡ b
@@ -63,7 +61,7 @@ no_region b c at from = refl
 
 pub taken_more : (b : List ℕ) (at : ℕ) (xs : List ℕ) (i : ℕ) → i < length xs →
     set (put b at (region xs 0 i)) (at + i) (get_or xs i 0) ≡ put b at (region xs 0 (i + 1))
-taken_more b at xs i h = grind (arith, length-region, put_more, region_more)
+taken_more b at xs i h = grind (arith, length-region, put-append_one, region_more)
 
 pub all_taken : (xs : List ℕ) → region xs 0 (length xs) ≡ xs
 unfolding region

@@ -1,7 +1,6 @@
 -- Long lists, given by a length and by what is at each place. They stay closed, since the length may be large.
 -- Source: own.
-use Rattle.std.specs.Prelude.{ℕ, List, map, replicate}
-use Rattle.std.specs.List.{range_with_len}
+use Rattle.std.specs.{Prelude.{ℕ, List, map, replicate}, List.{range_with_len}}
 
 -- f 0, f 1 and so on, n of them
 unfoldable pub listed : {X : Type 0} → ℕ → (ℕ → X) → List X

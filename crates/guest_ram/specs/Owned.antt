@@ -1,5 +1,5 @@
 -- The memory of a `Ram`: what it owns, and what a `&` to it lends.
-use Rattle.std.specs.Prelude.{ℕ, List}
+use Rattle.std.specs.{Prelude.{ℕ, List}, declared.alloc.Global.{Global}, contracts.impls.GlobalAllocator.TheImpl.{ghosts}}
 use base.Fraction.{full_share}
 use base.Fml.{Fml, Lft, fsep}
 use denote.Builtin.{u8}
@@ -9,8 +9,6 @@ use denote.RawPtr.{Ptr, lies_at}
 use denote.Struct.Lending.{lent_at}
 use mir.Raw.{raw}
 use mir.Syntax.{Ty, ty_array}
-use Rattle.std.specs.declared.alloc.Global.{Global}
-use Rattle.std.specs.contracts.impls.GlobalAllocator.TheImpl.{ghosts}
 
 -- n bytes, as memory is asked for
 abbrev pub bytes_type : ℕ → Ty

@@ -1,12 +1,10 @@
 // A list of bytes that never changes its length.
-ghost use Rattle.std.specs.Prelude.{◌≡◌, ◌≤◌, ◌<◌, ◌+◌, ◌*◌, List, ℕ, true, IfOk, length, slice_index, slice_set};
-ghost use Rattle.guest_ram.specs.Bytes.{all_fit, word_of, with_word, dword, dword_bytes, put, region};
-ghost use Rattle.guest_ram.specs.Listed.{copies, zeros};
-ghost use Rattle.guest_ram.specs.Owned.{bytes_type};
-ghost use Rattle.std.specs.Borrow.{full_share, sem, u8};
+ghost use Rattle.std.specs.{Prelude.{◌≡◌, ◌≤◌, ◌<◌, ◌+◌, ◌*◌, List, ℕ, true, IfOk, length, slice_index, slice_set}, Borrow.{full_share}};
+ghost use Rattle.std.specs.Borrow.{sem, u8};
+ghost use Rattle.guest_ram.specs.{Bytes.{all_fit, word_of, with_word, dword, dword_bytes, put, region}, Listed.{copies, zeros}};
+ghost use Rattle.guest_ram.specs.{Owned.{bytes_type}, declared.ram.TheConstants.{FRAME_SIZE, MAX_FRAMES}};
 ghost use denote.Array.{Array};
 ghost use denote.RawPtr.{lies_at, room_for};
-ghost use Rattle.guest_ram.specs.declared.ram.TheConstants.{FRAME_SIZE, MAX_FRAMES};
 
 use std::alloc::{AllocError, Allocator, Global};
 use std::marker::Model;

@@ -1,12 +1,8 @@
 -- An access through a segment register is an access from the linear address that the segment gives.
 use Rattle.std.proofs.Common.{◌≡◌, ℕ, ◌+◌, ◌%◌, ◌^◌, Bool, true, false, List, refl, ap, ◌∙◌, sym, None, Some, Result, Ok, Err, arith}
-use Rattle.std.specs.Prelude.{OnOk, IfErr}
-use Rattle.std.specs.declared.option.Option.{Option}
-use Rattle.client_world.specs.declared.faults.Fault.{Fault}
-use Rattle.client_world.specs.declared.place.Place.{Place}
-use Rattle.client_world.specs.declared.segments.SegReg.{SegReg}
-use Rattle.client_world.specs.Access.{access, segment_base, places_from, places_at, touched_places, first_forbidden, unless_forbidden}
-use Rattle.client_world.specs.World.{World}
+use Rattle.std.specs.{Prelude.{OnOk, IfErr}, declared.option.Option.{Option}}
+use Rattle.client_world.specs.{declared.faults.Fault.{Fault}, declared.place.Place.{Place}, declared.segments.SegReg.{SegReg}}
+use Rattle.client_world.specs.{Access.{access, segment_base, places_from, places_at, unless_forbidden}, World.{World}}
 use Rattle.host_memory.specs.View.{MachineView}
 use Rattle.guest_space.specs.Transfer.{read_result, access_fault, after_store, linear_access, bytes_at, fault_of, with_places}
 use Rattle.guest_space.specs.Transfer.{places_of_access}

@@ -1,19 +1,11 @@
 -- A machine after entries of DOS memory took the place of others, alone or together with the descriptors of a block.
-use Rattle.std.proofs.Common.{◌≡◌, ℕ, List, take, drop, ap, ◌∙◌}
-use Rattle.client_world.specs.declared.dos_memory.DosEntry.{DosEntry}
-use Rattle.client_world.specs.Access.{place_in}
-use Rattle.client_world.specs.DosMemory.{IsArena}
-use Rattle.client_world.specs.World.{MemoryBlock}
-use Rattle.host_memory.specs.DosList.{arena_in}
-use Rattle.host_memory.specs.Layout.{address_of, arena_part}
-use Rattle.host_memory.specs.View.{MachineView}
-use Rattle.std.proofs.Common.{Option, arith}
-use Rattle.guest_space.specs.declared.machine.Machine.TheInside.{Inside}
-use Rattle.guest_space.specs.Arena.{with_replaced_entries, NoneMade, with_entries}
+use Rattle.std.proofs.Common.{◌≡◌, ℕ, List, take, drop, ap, Option, arith}
+use Rattle.client_world.specs.{declared.dos_memory.DosEntry.{DosEntry}, Access.{place_in}, DosMemory.{IsArena}, World.{MemoryBlock}}
+use Rattle.host_memory.specs.{DosList.{arena_in}, Layout.{arena_part}, View.{MachineView}}
+use Rattle.guest_space.specs.{declared.machine.Machine.TheInside.{Inside}, Arena.{with_replaced_entries, NoneMade, with_entries}}
 use Rattle.guest_space.proofs.ArenaWrites.{with_arena, arena_of, entries_holds, entries_world, entries_sound, put_is, with_entries_rows}
-use Rattle.guest_space.proofs.ArenaWrites.{with_entries_blocks}
-use Rattle.guest_space.proofs.CacheLaws.{arena_addresses}
-use Rattle.guest_space.proofs.Insides.{processor_of, view_of, IsWhole, IsAfter, after_call}
+use Rattle.guest_space.proofs.{ArenaWrites.{with_entries_blocks}, CacheLaws.{arena_addresses}, Insides.{processor_of, view_of, IsWhole}}
+use Rattle.guest_space.proofs.Insides.{IsAfter, after_call}
 
 -- the entries that a memory has are those of the machine's world
 pub put_there : (m : Inside) (v : MachineView) (c : List ℕ) (place old : ℕ) (new : List DosEntry) → view_of m ≡ v →

@@ -1,25 +1,18 @@
 -- The headers of all entries written into the memory: they change the megabyte alone, below its read-only part, and leave it sound.
-use Rattle.std.proofs.Common.{◌≡◌, ℕ, zero, suc, ◌+◌, ◌*◌, ◌<◌, ◌≤◌, inl, inr, nat_eq, if◌then◌else◌, List, [], ◌∷◌, length, get_or, set}
-use Rattle.std.proofs.Common.{slice_index, drop, refl, ap, ◌∙◌, sym, arith, length-drop, drop-cons}
-use Rattle.std.proofs.lemmas.Bool.{cases_eq, eq-eqb, ne_eqb}
-use Rattle.client_world.specs.declared.dos_memory.DosEntry.{DosEntry}
-use Rattle.client_world.specs.declared.dos_memory.DosState.{DosState}
-use Rattle.client_world.specs.declared.dos_memory.DosState.TheVariants.{Free, Used, Dpmi}
-use Rattle.client_world.specs.declared.host_frames.TheConstants.{PAGE_SIZE, DOS_LIST, DOS_LIST_FRAMES}
-use Rattle.client_world.specs.declared.memory_map.TheConstants.{ARENA_START, ARENA_END, PARAGRAPH_SIZE, ROM_START}
-use Rattle.client_world.specs.DosMemory.{Fills, IsArena}
+use Rattle.std.proofs.Common.{◌≡◌, ℕ, zero, suc, ◌+◌, ◌*◌, ◌<◌, ◌≤◌, nat_eq, if◌then◌else◌, List, [], ◌∷◌, length, get_or, set, slice_index}
+use Rattle.std.proofs.{Common.{drop, refl, ap, ◌∙◌, sym, arith, length-drop, drop-cons}, lemmas.Bool.{cases_eq, eq-eqb, ne_eqb}}
+use Rattle.client_world.specs.{declared.dos_memory.DosEntry.{DosEntry}, declared.dos_memory.DosState.{DosState}}
+use Rattle.client_world.specs.{declared.dos_memory.DosState.TheVariants.{Free, Used, Dpmi}, declared.host_frames.TheConstants.{PAGE_SIZE}}
+use Rattle.client_world.specs.{declared.host_frames.TheConstants.{DOS_LIST}, declared.memory_map.TheConstants.{ARENA_START, ARENA_END}}
+use Rattle.client_world.specs.{declared.memory_map.TheConstants.{PARAGRAPH_SIZE, ROM_START}, DosMemory.{Fills, IsArena}}
 use Rattle.client_world.specs.Soundness.{SoundMegabyte}
 use Rattle.client_world.proofs.SoundWrites.{SoundMegabyte-set}
 use Rattle.guest_ram.specs.Bytes.{put}
-use Rattle.guest_ram.proofs.PutLaws.{length-put, region-put_below}
-use Rattle.host_memory.specs.DosList.{entry_at, entry_count, entry_size, arena_in}
-use Rattle.host_memory.specs.Headers.{header_letter, dos_header, owner_of, with_headers}
-use Rattle.host_memory.specs.Layout.{arena_part, dos_part}
-use Rattle.host_memory.proofs.Parts.{MemoryParts, parts_of, HasSize}
-use Rattle.host_memory.proofs.PutParts.{put_dos, size_put}
-use Rattle.guest_space.proofs.ArenaLists.{length-arena_in}
-use Rattle.guest_space.proofs.ArenaReads.{HasFrames, entry_there}
-use Rattle.guest_space.proofs.Fills.{fills_at}
+use Rattle.guest_ram.proofs.PutLaws.{region-put_below}
+use Rattle.host_memory.specs.{DosList.{entry_at, entry_count, entry_size, arena_in}, Headers.{header_letter, dos_header, owner_of}}
+use Rattle.host_memory.specs.{Headers.{with_headers}, Layout.{arena_part}}
+use Rattle.host_memory.proofs.{Parts.{HasParts, MemoryParts}, PutParts.{Dos, put_part}, ListsClaim.{length-arena_in}}
+use Rattle.guest_space.proofs.{ArenaReads.{HasFrames, entry_there}, Fills.{fills_at}}
 
 pub length-header : (letter : ℕ) (entry : DosEntry) → length (dos_header letter entry) ≡ 16
 unfolding dos_header
@@ -108,23 +101,17 @@ SoundMegabyte-headers dos (e ∷ es) from sound fills =
     fills.1
 
 -- in the whole memory they are written into the megabyte, and nothing else changes
-pub length-headers : (b : List ℕ) (es : List DosEntry) → length (with_headers b es) ≡ length b
-length-headers b [] = refl
-length-headers b (e ∷ es) =
-    length-headers (put b (PARAGRAPH_SIZE * e.at) (dos_header (header_letter es) e)) es
-    ∙ length-put b (PARAGRAPH_SIZE * e.at) (dos_header (header_letter es) e)
-
-pub headers_parts : (b : List ℕ) (budget : ℕ) (es : List DosEntry) (from : ℕ) → HasSize b budget → Fills from es ARENA_END →
-    parts_of (with_headers b es) budget ≡ record (parts_of b budget) { dos = with_headers (dos_part b) es }
-headers_parts b budget [] from size fills = refl
-headers_parts b budget (e ∷ es) from size fills =
+pub headers_has : (b : List ℕ) (budget : ℕ) (p : MemoryParts) (es : List DosEntry) (from : ℕ) → HasParts b budget p →
+    Fills from es ARENA_END → HasParts (with_headers b es) budget (record p { dos = with_headers p.dos es })
+headers_has b budget p [] from has fills = has
+headers_has b budget p (e ∷ es) from has fills =
     let room = fills_at (e ∷ es) from ARENA_END 0 e fills (omega arith) in
     let ends = room.ends in
     let long = length-header (header_letter es) e in
     let at = PARAGRAPH_SIZE * e.at in
     let xs = dos_header (header_letter es) e in
-    headers_parts (put b at xs) budget es (from + 1 + e.paras) (size_put b budget at xs size) fills.1
-    ∙ ap (λ (p : MemoryParts). record p { dos = with_headers p.dos es }) (put_dos b budget at at xs size refl (omega arith))
+    headers_has (put b at xs) budget (record p { dos = put p.dos at xs }) es (from + 1 + e.paras)
+    (put_part Dos b budget p at at xs has (omega arith) (omega arith)) fills.1
 
 -- where the header of the entry that is read is
 pub header_room : (b c : List ℕ) (place : ℕ) (entry : DosEntry) → IsArena (arena_in (arena_part b)) → arena_part c ≡ arena_part b →

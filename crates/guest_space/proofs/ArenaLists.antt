@@ -1,17 +1,16 @@
 -- The bytes that a list of entries of DOS memory has in its frames, and that the entries are read from them again.
 use Rattle.std.proofs.Common.{◌≡◌, ◌≢◌, ℕ, zero, suc, ◌+◌, ◌-◌, ◌*◌, ◌/◌, ◌%◌, ◌<◌, ◌≤◌, ◌⊎◌, inl, inr, List, [], ◌∷◌, ◌++◌, length, get_or}
-use Rattle.std.proofs.Common.{take, drop, refl, ap, ◌∙◌, sym, arith, add-zero, zero-add, add_assoc, length-append}
-use Rattle.std.proofs.lemmas.Bool.{cases_lt, eq-eqb, ne_eqb}
-use Rattle.std.proofs.lemmas.Grind.{same_number_lists}
-use Rattle.std.proofs.lemmas.List.{length-take, take-append-drop, get_or_append_left, get_or-append_right, get_or_past}
-use Rattle.client_world.specs.declared.dos_memory.DosEntry.{DosEntry}
-use Rattle.client_world.specs.declared.dos_memory.DosState.{DosState}
+use Rattle.std.proofs.{Common.{take, drop, refl, ap, ◌∙◌, sym, arith, add-zero, zero-add, add_assoc, length-append}, lemmas.Bool.{cases_lt}}
+use Rattle.std.proofs.{lemmas.Bool.{eq-eqb, ne_eqb}, lemmas.Grind.{same_number_lists}, lemmas.List.{length-take, take-append-drop}}
+use Rattle.std.proofs.lemmas.List.{get_or_append_left, get_or-append_right, get_or_past}
+use Rattle.client_world.specs.{declared.dos_memory.DosEntry.{DosEntry}, declared.dos_memory.DosState.{DosState}}
 use Rattle.client_world.specs.declared.dos_memory.DosState.TheVariants.{Free, Used, Dpmi}
 use Rattle.guest_ram.specs.Listed.{zeros}
-use Rattle.guest_ram.proofs.ListedLaws.{length-listed, at_listed, is_listed, length-zeros, at_zeros}
+use Rattle.guest_ram.proofs.{ListedLaws.{at_listed, is_listed, length-zeros, at_zeros}, ByteLists.{word_back}}
 use Rattle.host_memory.specs.DosList.{entry_at, entry_bytes, state_of, state_code, entries_from, entry_count, entry_room, entry_size}
 use Rattle.host_memory.specs.DosList.{list_size, arena_in, KeepsArena}
 use Rattle.guest_space.specs.Arena.{list_bytes, arena_bytes}
+use Rattle.host_memory.proofs.ListsClaim.{length-arena_in}
 
 -- eight bytes that are the same are the same entry
 pub same_entry : (a b : List ℕ) (p q : ℕ) → ((i : ℕ) → i < entry_size → get_or a (p + i) 0 ≡ get_or b (q + i) 0) →
@@ -23,9 +22,6 @@ state_back : (state : DosState) → state_of (state_code state) ≡ state
 state_back Free = refl
 state_back Used = refl
 state_back Dpmi = refl
-
-word_back : (v : ℕ) → v % 0x100 + 0x100 * (v / 0x100) ≡ v
-word_back v = omega arith
 
 -- an entry is read from its bytes
 entry_back : (entry : DosEntry) → entry_at (entry_bytes entry) 0 ≡ entry
@@ -152,10 +148,6 @@ arena_keeps es few =
           ∙ ap (λ (x : DosEntry). get_or (entry_bytes x) at 0) (sym (entry_read es place d (omega arith))));
       rest = λ at from to. past_arena_bytes es at (omega arith);
     }
-
-pub length-arena_in : (part : List ℕ) → length (arena_in part) ≡ entry_count part
-unfolding arena_in
-length-arena_in part = length-listed (entry_count part) (λ place. entry_at part (entry_size * place))
 
 pub at_arena_in : (part : List ℕ) (place : ℕ) (d : DosEntry) → place < entry_count part →
     get_or (arena_in part) place d ≡ entry_at part (entry_size * place)

@@ -1,20 +1,15 @@
 -- The three writes that put entries of DOS memory in place of others stay in the frames of the list, and leave there the bytes of the
 -- entries after them.
 use Rattle.std.proofs.Common.{◌≡◌, ℕ, ◌+◌, ◌-◌, ◌*◌, ◌<◌, ◌≤◌, ◌⊎◌, inl, inr, List, length, get_or, refl, ap, ◌∙◌, sym, arith, zero-add}
-use Rattle.std.proofs.Common.{add_assoc}
-use Rattle.std.proofs.lemmas.Bool.{cases_lt}
-use Rattle.std.proofs.lemmas.Grind.{same_number_lists}
+use Rattle.std.proofs.{Common.{add_assoc}, lemmas.Bool.{cases_lt}, lemmas.Grind.{same_number_lists}}
 use Rattle.client_world.specs.declared.dos_memory.DosEntry.{DosEntry}
-use Rattle.guest_ram.specs.Bytes.{put, region}
-use Rattle.guest_ram.specs.Listed.{copies}
-use Rattle.guest_ram.proofs.ListedLaws.{length-copies}
-use Rattle.guest_ram.proofs.PutLaws.{length-put, put_above, put_below, put_within, length-region, at_region, region-put}
-use Rattle.host_memory.specs.DosList.{entry_count, entry_room, list_size, arena_in, KeepsArena, entry_size}
-use Rattle.host_memory.specs.Layout.{arena_part}
-use Rattle.host_memory.proofs.ListsClaim.{entries_few}
+use Rattle.guest_ram.specs.{Bytes.{put, region}, Listed.{copies}}
+use Rattle.guest_ram.proofs.{ListedLaws.{length-copies}, PutLaws.{length-put, put_above, put_below, put_within, length-region, at_region}}
+use Rattle.guest_ram.proofs.PutLaws.{region-put}
+use Rattle.host_memory.specs.{DosList.{entry_count, entry_room, list_size, arena_in, KeepsArena, entry_size}, Layout.{arena_part}}
+use Rattle.host_memory.proofs.ListsClaim.{entries_few, length-arena_in}
 use Rattle.guest_space.specs.Arena.{with_replaced_entries, list_bytes, arena_bytes}
-use Rattle.guest_space.proofs.ArenaLists.{length-list_bytes, length-arena_bytes, length-arena_in, arena_bytes_are}
-use Rattle.guest_space.proofs.ArenaReads.{HasFrames, list_start}
+use Rattle.guest_space.proofs.{ArenaLists.{length-list_bytes, length-arena_bytes, arena_bytes_are}, ArenaReads.{HasFrames, list_start}}
 use Rattle.guest_space.proofs.ArenaSplices.{spliced_bytes, splice_is, length-spliced}
 
 -- a memory that differs in a part alone is the one in which that part is put

@@ -1,11 +1,9 @@
 -- Entries of DOS memory read from the memory, where they lie one after another, and how many they are.
-use Rattle.std.proofs.Common.{◌≡◌, ◌≢◌, ℕ, ◌+◌, ◌*◌, ◌<◌, ◌≤◌, ◌⊎◌, inl, inr, List, length, get_or, ap, ◌∙◌, sym, arith, add_assoc}
-use Rattle.std.proofs.lemmas.Bool.{cases_lt}
-use Rattle.client_world.specs.declared.dos_memory.DosEntry.{DosEntry}
-use Rattle.client_world.specs.declared.host_frames.TheConstants.{PAGE_SIZE, BUDGET_FRAMES, DOS_LIST, DOS_LIST_FRAMES}
+use Rattle.std.proofs.{Common.{◌≡◌, ◌≢◌, ℕ, ◌+◌, ◌*◌, ◌<◌, ◌≤◌, ◌⊎◌, List, length, get_or, arith, add_assoc}, lemmas.Bool.{cases_lt}}
+use Rattle.client_world.specs.{declared.dos_memory.DosEntry.{DosEntry}, declared.host_frames.TheConstants.{PAGE_SIZE, BUDGET_FRAMES}}
+use Rattle.client_world.specs.declared.host_frames.TheConstants.{DOS_LIST}
 use Rattle.guest_ram.proofs.PutLaws.{at_region}
-use Rattle.host_memory.specs.DosList.{entry_at, entry_count, entry_room, entry_size, arena_in}
-use Rattle.host_memory.specs.Layout.{arena_part}
+use Rattle.host_memory.specs.{DosList.{entry_at, entry_count, entry_room, entry_size, arena_in}, Layout.{arena_part}}
 use Rattle.host_memory.proofs.ListsClaim.{entries_few}
 use Rattle.guest_space.proofs.ArenaLists.{same_entry, at_arena_in, entries_are}
 

@@ -1,14 +1,9 @@
 -- Entries in place of others, where INT 31h function 0100h made none of either: those that it made are the same, and so the descriptors of
 -- DOS blocks belong to entries still.
 use Rattle.std.proofs.Common.{◌≡◌, ℕ, zero, suc, ◌+◌, ◌⊎◌, inl, inr, true, List, [], ◌∷◌, ◌++◌, Some, take, drop, ap, ◌∙◌, sym, subst}
-use Rattle.std.proofs.Common.{arith}
+use Rattle.std.proofs.{Common.{arith}, lemmas.Option.{same_Some}, lemmas.List.{take-append-drop, drop-drop}}
 use Rattle.std.specs.List.{slice_get}
-use Rattle.std.proofs.lemmas.Option.{same_Some}
-use Rattle.std.proofs.lemmas.List.{take-append-drop, drop-drop}
-use Rattle.client_world.specs.declared.dos_memory.DosEntry.{DosEntry}
-use Rattle.client_world.specs.DosMemory.{is_dpmi}
-use Rattle.client_world.specs.Selector.{Row}
-use Rattle.client_world.specs.Soundness.{SoundRuns}
+use Rattle.client_world.specs.{declared.dos_memory.DosEntry.{DosEntry}, DosMemory.{is_dpmi}, Selector.{Row}, Soundness.{SoundRuns}}
 use Rattle.guest_space.specs.Arena.{with_replaced_entries, NoneMade}
 
 -- the entry is one of them

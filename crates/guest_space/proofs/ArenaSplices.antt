@@ -1,15 +1,11 @@
 -- What moving the entries after, writing the new ones and filling up with zeros does to the bytes of the frames: they are those of the
 -- entries after it.
-use Rattle.std.proofs.Common.{◌≡◌, ℕ, ◌+◌, ◌-◌, ◌*◌, ◌<◌, ◌≤◌, inl, inr, List, ◌++◌, length, get_or, take, drop, ap, ◌∙◌, sym, arith}
-use Rattle.std.proofs.Common.{length-append, length-drop}
-use Rattle.std.proofs.lemmas.Bool.{cases_lt}
-use Rattle.std.proofs.lemmas.Grind.{same_number_lists}
-use Rattle.std.proofs.lemmas.List.{length-take}
+use Rattle.std.proofs.Common.{◌≡◌, ℕ, ◌+◌, ◌-◌, ◌*◌, ◌<◌, ◌≤◌, inl, inr, List, length, get_or, ◌∙◌, sym, arith, length-append, length-drop}
+use Rattle.std.proofs.{lemmas.Bool.{cases_lt}, lemmas.Grind.{same_number_lists}, lemmas.List.{length-take}}
 use Rattle.client_world.specs.declared.dos_memory.DosEntry.{DosEntry}
-use Rattle.guest_ram.specs.Bytes.{put, region}
-use Rattle.guest_ram.specs.Listed.{copies}
-use Rattle.guest_ram.proofs.ListedLaws.{length-copies, at_copies}
-use Rattle.guest_ram.proofs.PutLaws.{length-put, put_above, put_below, put_within, length-region, at_region}
+use Rattle.guest_ram.specs.{Bytes.{put, region}, Listed.{copies}}
+use Rattle.guest_ram.proofs.{ListedLaws.{length-copies, at_copies}, PutLaws.{length-put, put_above, put_below, put_within, length-region}}
+use Rattle.guest_ram.proofs.PutLaws.{at_region}
 use Rattle.host_memory.specs.DosList.{entry_room, list_size, entry_size}
 use Rattle.guest_space.specs.Arena.{with_replaced_entries, list_bytes, arena_bytes}
 use Rattle.guest_space.proofs.ArenaLists.{length-list_bytes, length-arena_bytes, at_arena_bytes, past_arena_bytes, bytes_left, bytes_right}

@@ -1,31 +1,17 @@
 -- The memory after entries of DOS memory took the place of others and all headers were written: the world that it holds, which is sound.
 use Rattle.std.proofs.Common.{◌≡◌, ℕ, ◌+◌, ◌≤◌, Bool, List, length, take, drop, refl, ap, ◌∙◌, sym, subst, arith, Option, Some, None}
-use Rattle.std.proofs.lemmas.Grind.{same_number_lists}
-use Rattle.client_world.specs.declared.dos_memory.DosEntry.{DosEntry}
-use Rattle.client_world.specs.declared.registers.Mode.{Mode}
-use Rattle.client_world.specs.declared.registers.Regs.{Regs}
-use Rattle.client_world.specs.declared.registers.Width.{Width}
-use Rattle.client_world.specs.declared.memory_map.TheConstants.{ARENA_START, ARENA_END}
-use Rattle.client_world.specs.DosMemory.{IsArena}
-use Rattle.client_world.specs.Soundness.{IsSound, SoundWidth}
-use Rattle.client_world.specs.World.{World}
+use Rattle.client_world.specs.{declared.dos_memory.DosEntry.{DosEntry}, declared.registers.Mode.{Mode}, declared.registers.Regs.{Regs}}
+use Rattle.client_world.specs.{declared.registers.Width.{Width}, declared.memory_map.TheConstants.{ARENA_START, ARENA_END}}
+use Rattle.client_world.specs.{DosMemory.{IsArena}, Soundness.{IsSound, SoundWidth}, World.{World}}
 use Rattle.guest_ram.specs.Bytes.{put}
-use Rattle.guest_ram.proofs.PutLaws.{length-put, put_within, length-region, region-put}
-use Rattle.host_memory.specs.DosList.{entry_count, list_size, arena_in}
-use Rattle.host_memory.specs.Headers.{with_headers}
-use Rattle.host_memory.specs.Holds.{Holds}
-use Rattle.host_memory.specs.Layout.{arena_part, dos_part, world_of}
-use Rattle.host_memory.specs.View.{MachineView}
-use Rattle.host_memory.proofs.Parts.{MemoryParts, parts_of, HasSize, world_by, holds_by, holds_parts, holds_with_arena, holds_with_dos}
-use Rattle.host_memory.proofs.PutParts.{put_arena, size_put}
-use Rattle.host_memory.proofs.WorldParts.{arena_is}
-use Rattle.guest_space.specs.Arena.{with_replaced_entries, NoneMade, with_entries, arena_bytes}
-use Rattle.guest_space.specs.Machines.{Processor, held_world}
-use Rattle.guest_space.proofs.ArenaHeaders.{headers_parts, length-headers, SoundMegabyte-headers}
-use Rattle.guest_space.proofs.ArenaLists.{length-arena_bytes, length-arena_in, arena_back, arena_keeps}
-use Rattle.guest_space.proofs.ArenaReads.{HasFrames, list_start}
-use Rattle.guest_space.proofs.ArenaRuns.{SoundRuns-spliced}
-use Rattle.guest_space.proofs.ArenaSplices.{length-spliced}
+use Rattle.guest_ram.proofs.PutLaws.{length-region, region-put, put_all}
+use Rattle.host_memory.specs.{DosList.{entry_count, list_size, arena_in}, Headers.{with_headers}, Holds.{Holds}, Layout.{arena_part}}
+use Rattle.host_memory.specs.{Layout.{dos_part, world_of}, View.{MachineView}}
+use Rattle.host_memory.proofs.Parts.{HasParts, holds_by, holds_parts, holds_with_arena, holds_with_dos, own_parts, parts_of, world_by}
+use Rattle.host_memory.proofs.{PutParts.{Arena, put_part}, WorldParts.{arena_is}, ListsClaim.{length-arena_in}}
+use Rattle.guest_space.specs.{Arena.{with_replaced_entries, NoneMade, with_entries, arena_bytes}, Machines.{Processor, held_world}}
+use Rattle.guest_space.proofs.{ArenaHeaders.{headers_has, SoundMegabyte-headers}, ArenaLists.{length-arena_bytes, arena_back, arena_keeps}}
+use Rattle.guest_space.proofs.{ArenaReads.{HasFrames, list_start}, ArenaRuns.{SoundRuns-spliced}, ArenaSplices.{length-spliced}}
 use Rattle.guest_space.proofs.Fills.{fills_long}
 
 -- entries that are an arena have room
@@ -36,34 +22,29 @@ arena_few es arena = fills_long es ARENA_START ARENA_END arena.fills
 abbrev pub with_arena : List ℕ → List DosEntry → List ℕ
 with_arena b es = with_headers (put b list_start (arena_bytes es)) es
 
-put_all : (b xs : List ℕ) → length xs ≡ length b → put b 0 xs ≡ xs
-put_all b xs size = grind (arith, length-put, put_within, same_number_lists)
-
-pub arena_parts : (b : List ℕ) (budget : ℕ) (es : List DosEntry) → HasSize b budget → IsArena es →
-    parts_of (with_arena b es) budget ≡ record (parts_of b budget) { arena = arena_bytes es; dos = with_headers (dos_part b) es }
-arena_parts b budget es size arena =
+pub arena_has : (b : List ℕ) (budget : ℕ) (es : List DosEntry) → Holds b budget → IsArena es →
+    HasParts (with_arena b es) budget (record (parts_of b budget) { arena = arena_bytes es; dos = with_headers (dos_part b) es })
+arena_has b budget es holds arena =
     let few = arena_few es arena in
-    let xs = arena_bytes es in
-    let long : length xs ≡ list_size = length-arena_bytes es (omega arith) in
+    let size = holds.size in
+    let long : length (arena_bytes es) ≡ list_size = length-arena_bytes es (omega arith) in
     let part : length (arena_part b) ≡ list_size = length-region b list_start list_size (omega arith) in
-    headers_parts (put b list_start xs) budget es ARENA_START (size_put b budget list_start xs size) arena.fills
-    ∙ ap (λ (p : MemoryParts). record p { dos = with_headers p.dos es })
-    (put_arena b budget list_start 0 xs size (omega arith) (omega arith)
-    ∙ ap (λ (a : List ℕ). record (parts_of b budget) { arena = a }) (put_all (arena_part b) xs (long ∙ sym part)))
+    headers_has _ budget _ es ARENA_START
+    (subst (λ (a : List ℕ). HasParts (put b list_start (arena_bytes es)) budget (record (parts_of b budget) { arena = a }))
+    (put_all (arena_part b) (arena_bytes es) (long ∙ sym part))
+    (put_part Arena b budget _ list_start 0 (arena_bytes es) (own_parts b budget holds) (omega arith) (omega arith))) arena.fills
 
 pub arena_world : (b : List ℕ) (budget : ℕ) → Holds b budget →
     (mode : Mode) (regs : Regs) (vif : Bool) (width : Option Width) (es : List DosEntry) → IsArena es →
     world_of (with_arena b es) budget mode regs vif width
     ≡ record (world_of b budget mode regs vif width) { arena = es; dos = with_headers (world_of b budget mode regs vif width).dos es }
 unfolding world_of
-arena_world b budget holds mode regs vif width es arena = grind (arith, arena_back, arena_few, arena_parts, parts_of, world_by)
+arena_world b budget holds mode regs vif width es arena = grind (arith, arena_back, arena_few, arena_has, parts_of, world_by)
 
 pub arena_holds : (b : List ℕ) (budget : ℕ) → Holds b budget → (es : List DosEntry) → IsArena es → Holds (with_arena b es) budget
 arena_holds b budget holds es arena =
     let few = arena_few es arena in
-    holds_by (with_arena b es) budget (record (parts_of b budget) { arena = arena_bytes es; dos = with_headers (dos_part b) es })
-    (arena_parts b budget es holds.size arena)
-    (length-headers (put b list_start (arena_bytes es)) es ∙ length-put b list_start (arena_bytes es) ∙ holds.size) holds.most
+    holds_by (with_arena b es) budget _ (arena_has b budget es holds arena) holds.most
     (holds_with_dos (record (parts_of b budget) { arena = arena_bytes es }) budget (with_headers (dos_part b) es)
     (holds_with_arena (parts_of b budget) budget (arena_bytes es) (arena_keeps es (omega arith)) (holds_parts b budget holds)))
 
@@ -77,21 +58,10 @@ pub IsSound-entries : (w : World) (place old : ℕ) (new : List DosEntry) → Is
     NoneMade new →
     IsArena (with_replaced_entries w.arena place old new) → IsSound (with_entries w place old new)
 unfolding with_entries
-IsSound-entries w place old new s gone none arena = record {
-  segments = s.segments;
-  megabyte = SoundMegabyte-headers w.dos (with_replaced_entries w.arena place old new) ARENA_START s.megabyte arena.fills;
-  arena = arena;
-  blocks = s.blocks;
-  block_bytes = s.block_bytes;
-  pageable = s.pageable;
-  descriptors = s.descriptors;
-  runs = SoundRuns-spliced w.descriptors w.arena place old new s.runs gone none;
-  interrupt_vectors = s.interrupt_vectors;
-  exception_vectors = s.exception_vectors;
-  callbacks = s.callbacks;
-  depth = s.depth;
-  width = grind (arith, keeps_width);
-}
+IsSound-entries w place old new s gone none arena =
+    let megabyte = SoundMegabyte-headers w.dos (with_replaced_entries w.arena place old new) ARENA_START s.megabyte arena.fills in
+    let runs = SoundRuns-spliced w.descriptors w.arena place old new s.runs gone none in
+    grind (arith, keeps_width)
 
 -- what a machine's view shows of the list
 

@@ -1,27 +1,16 @@
 -- Blocks made, freed and resized by their handles: what each call asks of the memory, and the machine after it.
 use Rattle.std.proofs.Common.{◌≡◌, ◌≢◌, ℕ, zero, suc, ◌-◌, ◌<◌, ◌≤◌, List, length, slice_index_or, slice_set, length-set, get_or-set_same}
-use Rattle.std.proofs.Common.{refl, ap, ◌∙◌, sym, subst, arith, Option, None, Some}
-use Rattle.std.proofs.lemmas.List.{set-set, set-get_or}
-use Rattle.client_world.specs.declared.limits.TheConstants.{MAX_BLOCKS}
-use Rattle.client_world.specs.declared.place.Place.{Place}
-use Rattle.client_world.specs.Access.{HasByte, IsHeld, IsHeldIn}
-use Rattle.client_world.specs.Soundness.{IsSound, pages_of_block}
-use Rattle.client_world.specs.World.{World, MemoryBlock, block_at, with_block_at}
-use Rattle.host_memory.specs.Holds.{Holds}
-use Rattle.host_memory.specs.Layout.{address_of}
-use Rattle.host_memory.specs.View.{MachineView}
-use Rattle.block_memory.specs.BlockChanges.{blocks_held, CanHoldIn, CanSizeIn, HasBlockIn, ReplacesBlock, with_at}
-use Rattle.block_memory.specs.BlockSizes.{CanHold, CanMake, CanSize, block_with_zero_pages, fresh_block}
-use Rattle.block_memory.proofs.BlockSteps.{becomes, held_still}
-use Rattle.block_memory.proofs.PageChanges.{held_in, is_held}
-use Rattle.block_memory.proofs.SizedBlocks.{extended_fresh}
-use Rattle.guest_space.specs.declared.machine.Machine.TheInside.{Inside}
-use Rattle.guest_space.specs.declared.pages.CacheEntry.{CacheEntry}
-use Rattle.guest_space.specs.Cache.{Warm}
+use Rattle.std.proofs.{Common.{refl, ap, ◌∙◌, sym, subst, arith, Option, None, Some}, lemmas.List.{set-set, set-get_or}}
+use Rattle.client_world.specs.{declared.limits.TheConstants.{MAX_BLOCKS}, declared.place.Place.{Place}, Access.{HasByte, IsHeld, IsHeldIn}}
+use Rattle.client_world.specs.{Soundness.{IsSound, pages_of_block}, World.{World, MemoryBlock, block_at, with_block_at}}
+use Rattle.host_memory.specs.{Holds.{Holds}, Layout.{address_of}, View.{MachineView}}
+use Rattle.block_memory.specs.{BlockChanges.{blocks_held, CanHoldIn, CanSizeIn, HasBlockIn, ReplacesBlock, with_at}, BlockSizes.{CanHold}}
+use Rattle.block_memory.specs.BlockSizes.{CanMake, CanSize, block_with_zero_pages, fresh_block}
+use Rattle.block_memory.proofs.{BlockSteps.{becomes, held_still}, PageChanges.{held_in, is_held}, SizedBlocks.{extended_fresh}}
+use Rattle.guest_space.specs.{declared.machine.Machine.TheInside.{Inside}, declared.pages.CacheEntry.{CacheEntry}, Cache.{Warm}}
 use Rattle.guest_space.specs.Machines.{Processor, held_world}
-use Rattle.guest_space.proofs.HiddenLaws.{kept}
-use Rattle.guest_space.proofs.Insides.{processor_of, view_of, IsWhole}
-use Rattle.guest_space.proofs.BlockViews.{IsView, ReplacedMachine, held_blocks, holds_blocks, in_memory, replaced_machine}
+use Rattle.guest_space.proofs.{HiddenLaws.{kept}, Insides.{processor_of, view_of, IsWhole}, BlockViews.{IsView, ReplacedMachine}}
+use Rattle.guest_space.proofs.BlockViews.{held_blocks, holds_blocks, in_memory, replaced_machine}
 
 -- the block of a handle lies at the index before it
 pub at_handle : (blocks : List (Option MemoryBlock)) (handle : ℕ) → 0 < handle →

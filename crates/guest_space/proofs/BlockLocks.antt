@@ -1,27 +1,17 @@
 -- The lock counts of a machine's blocks.
 use Rattle.std.proofs.Common.{◌≡◌, ◌≢◌, ℕ, suc, ◌+◌, ◌*◌, ◌<◌, ◌≤◌, ◌⊎◌, List, refl, ap, ◌∙◌, sym, subst, arith, Option, None}
 use Rattle.client_world.specs.declared.host_frames.TheConstants.{PAGE_SIZE, LOCK_COUNTS, LOCK_COUNT_FRAMES, LOCK_COUNT_SIZE}
-use Rattle.client_world.specs.declared.limits.TheConstants.{GREATEST_LOCK_COUNT}
-use Rattle.client_world.specs.declared.memory_map.TheConstants.{BLOCK_REGION, BLOCK_REGION_END}
-use Rattle.client_world.specs.declared.place.Place.{Place}
-use Rattle.client_world.specs.Access.{place_in, place_of}
-use Rattle.client_world.specs.Soundness.{IsSound, SoundBlocks, HoldBytes}
-use Rattle.client_world.specs.World.{World, MemoryBlock, block_at}
+use Rattle.client_world.specs.{declared.limits.TheConstants.{GREATEST_LOCK_COUNT}, declared.memory_map.TheConstants.{BLOCK_REGION}}
+use Rattle.client_world.specs.{declared.memory_map.TheConstants.{BLOCK_REGION_END}, declared.place.Place.{Place}, Access.{place_in}}
+use Rattle.client_world.specs.{Access.{place_of}, Soundness.{IsSound, SoundBlocks, HoldBytes}, World.{World, MemoryBlock, block_at}}
 use Rattle.guest_ram.specs.Bytes.{word_of}
-use Rattle.block_memory.specs.BlockSizes.{IsBlocks, lock_in, with_lock}
-use Rattle.host_memory.specs.Holds.{Holds}
-use Rattle.host_memory.specs.Layout.{handles_part, tables_part, locks_part, budget_part}
-use Rattle.host_memory.specs.View.{MachineView}
-use Rattle.host_memory.proofs.BlockRows.{block_there}
-use Rattle.block_memory.proofs.LockWrites.{lock_reads, no_lock, block_byte, locked, locks_page}
-use Rattle.block_memory.specs.BlockChanges.{blocks_held}
-use Rattle.host_memory.proofs.PartBytes.{part_word}
-use Rattle.block_memory.proofs.RegionPages.{page_at}
+use Rattle.block_memory.specs.{BlockSizes.{IsBlocks, lock_in, with_lock}, BlockChanges.{blocks_held}}
+use Rattle.host_memory.specs.{Holds.{Holds}, Layout.{handles_part, tables_part, locks_part, budget_part}, View.{MachineView}}
+use Rattle.host_memory.proofs.{BlockRows.{block_there}, PartBytes.{part_word}}
+use Rattle.block_memory.proofs.{LockWrites.{lock_reads, no_lock, block_byte, locked, locks_page}, RegionPages.{page_at}}
 use Rattle.block_memory.proofs.SizedSound.{sound_blocks, locked_sound, locked_fits, held_width}
-use Rattle.guest_space.specs.declared.machine.Machine.TheInside.{Inside}
-use Rattle.guest_space.specs.Machines.{Processor, held_world}
-use Rattle.guest_space.proofs.Insides.{processor_of, view_of, IsWhole, IsAfter, after_call}
-use Rattle.guest_space.proofs.KeptPlaces.{locks_keep_places}
+use Rattle.guest_space.specs.{declared.machine.Machine.TheInside.{Inside}, Machines.{Processor, held_world}}
+use Rattle.guest_space.proofs.{Insides.{processor_of, view_of, IsWhole, IsAfter, after_call}, KeptPlaces.{locks_keep_places}}
 use Rattle.guest_space.proofs.BlockViews.{IsView, held_blocks, held_budget, memory_blocks, memory_bytes, memory_ranges}
 
 abbrev lock_of_world : World → ℕ → ℕ

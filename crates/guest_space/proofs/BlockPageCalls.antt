@@ -1,34 +1,20 @@
 -- A page of a machine's block cleared, and the pages of its blocks counted.
-use Rattle.std.proofs.Common.{◌≡◌, ◌≢◌, ℕ, suc, ◌+◌, ◌*◌, ◌/◌, ◌<◌, ◌≤◌, inl, inr, List, length, refl, ap, ◌∙◌, sym, subst, arith, Option}
-use Rattle.std.proofs.Common.{None}
+use Rattle.std.proofs.Common.{◌≡◌, ◌≢◌, ℕ, suc, ◌+◌, ◌*◌, ◌/◌, ◌<◌, ◌≤◌, List, length, refl, ap, ◌∙◌, sym, subst, arith, Option, None}
 use Rattle.std.proofs.lemmas.Bool.{cases_eq}
 use Rattle.client_world.specs.declared.host_frames.TheConstants.{PAGE_SIZE, BLOCK_TABLES, BLOCK_TABLE_FRAMES, PAGE_ENTRY_SIZE}
-use Rattle.client_world.specs.declared.memory_map.TheConstants.{BLOCK_REGION_PAGES}
-use Rattle.client_world.specs.declared.limits.TheConstants.{MAX_BLOCKS, MAX_PAGES}
-use Rattle.client_world.specs.declared.place.Place.{Place}
-use Rattle.client_world.specs.Access.{place_in, place_of}
-use Rattle.client_world.specs.Soundness.{IsSound, SoundBlocks, HoldBytes, pages_of_blocks}
-use Rattle.client_world.specs.World.{MemoryBlock, block_at}
-use Rattle.guest_ram.specs.Bytes.{dword, put}
-use Rattle.guest_ram.specs.Listed.{copies}
-use Rattle.block_memory.specs.BlockSizes.{IsBlocks, blocks_with_zero_page, locked_pages, all_locked}
-use Rattle.host_memory.specs.Holds.{Holds, all_pages}
-use Rattle.host_memory.specs.Layout.{handles_part, tables_part, locks_part, budget_part, entry_of, pages_of, first_page_of}
-use Rattle.host_memory.specs.View.{MachineView}
-use Rattle.host_memory.proofs.BlockRows.{block_there}
-use Rattle.host_memory.proofs.BlocksClaim.{base_free}
-use Rattle.block_memory.proofs.LockWrites.{block_byte, in_region_of}
-use Rattle.block_memory.specs.BlockChanges.{blocks_held}
-use Rattle.block_memory.proofs.PageCounts.{all_pages_are}
-use Rattle.block_memory.proofs.PageSums.{locked_are}
-use Rattle.host_memory.proofs.PartBytes.{part_dword}
-use Rattle.block_memory.proofs.RegionPages.{page_at}
-use Rattle.block_memory.proofs.SizedSound.{sound_blocks, zeroed_sound, zeroed_fits, held_width}
+use Rattle.client_world.specs.{declared.memory_map.TheConstants.{BLOCK_REGION_PAGES}, declared.limits.TheConstants.{MAX_BLOCKS, MAX_PAGES}}
+use Rattle.client_world.specs.{declared.place.Place.{Place}, Access.{place_in, place_of}, Soundness.{IsSound, SoundBlocks, HoldBytes}}
+use Rattle.client_world.specs.{Soundness.{pages_of_blocks}, World.{MemoryBlock, block_at}}
+use Rattle.guest_ram.specs.{Bytes.{dword, put}, Listed.{copies}}
+use Rattle.block_memory.specs.{BlockSizes.{IsBlocks, blocks_with_zero_page, locked_pages, all_locked}, BlockChanges.{blocks_held}}
+use Rattle.host_memory.specs.{Holds.{Holds, all_pages}, Layout.{handles_part, tables_part, locks_part, budget_part, entry_of, pages_of}}
+use Rattle.host_memory.specs.{Layout.{first_page_of}, View.{MachineView}}
+use Rattle.host_memory.proofs.{BlockRows.{block_there}, BlocksClaim.{base_free}, PartBytes.{part_dword}}
+use Rattle.block_memory.proofs.{LockWrites.{block_byte, in_region_of}, PageCounts.{all_pages_are}, PageSums.{locked_are}}
+use Rattle.block_memory.proofs.{RegionPages.{page_at}, SizedSound.{sound_blocks, zeroed_sound, zeroed_fits, held_width}}
 use Rattle.block_memory.proofs.ZeroWrites.{page_cleared, clears_page}
-use Rattle.guest_space.specs.declared.machine.Machine.TheInside.{Inside}
-use Rattle.guest_space.specs.Machines.{Processor, held_world}
-use Rattle.guest_space.proofs.Insides.{processor_of, view_of, IsWhole, IsAfter, after_call}
-use Rattle.guest_space.proofs.KeptPlaces.{cleared_pages_keep_places}
+use Rattle.guest_space.specs.{declared.machine.Machine.TheInside.{Inside}, Machines.{Processor, held_world}}
+use Rattle.guest_space.proofs.{Insides.{processor_of, view_of, IsWhole, IsAfter, after_call}, KeptPlaces.{cleared_pages_keep_places}}
 use Rattle.guest_space.proofs.BlockViews.{IsView, held_blocks, held_budget, memory_blocks, memory_bytes, memory_ranges}
 
 here_blocks : (k : Processor) (b : List ℕ) (v : MachineView) → IsView k b v → (lin : ℕ) → IsBlocks (place_of v.world lin) →

@@ -1,24 +1,14 @@
 -- The rows and the bytes of a machine's blocks, read.
-use Rattle.std.proofs.Common.{◌≡◌, ◌≢◌, ℕ, zero, suc, ◌+◌, ◌-◌, ◌*◌, ◌/◌, ◌%◌, ◌<◌, ◌≤◌, inl, inr, List, length, slice_index}
-use Rattle.std.proofs.Common.{slice_index_or, refl, ap, ◌∙◌, sym, subst, arith, Option, None, Some}
-use Rattle.std.proofs.lemmas.Bool.{cases_lt}
-use Rattle.std.proofs.lemmas.List.{get_or_past}
-use Rattle.client_world.specs.declared.blocks.BlockRow.{BlockRow}
+use Rattle.std.proofs.Common.{◌≡◌, ◌≢◌, ℕ, zero, suc, ◌+◌, ◌-◌, ◌*◌, ◌/◌, ◌%◌, ◌<◌, ◌≤◌, List, length, slice_index, slice_index_or, refl}
+use Rattle.std.proofs.{Common.{ap, ◌∙◌, sym, subst, arith, Option, None, Some}, lemmas.Bool.{cases_lt}, lemmas.List.{get_or_past}}
 use Rattle.client_world.specs.declared.host_frames.TheConstants.{PAGE_SIZE, BLOCK_TABLES, BLOCK_ROWS, BLOCK_ROW_SIZE, PAGE_ENTRY_SIZE}
-use Rattle.client_world.specs.declared.limits.TheConstants.{MAX_BLOCKS}
-use Rattle.client_world.specs.declared.memory_map.TheConstants.{BLOCK_REGION, BLOCK_REGION_END, BLOCK_REGION_PAGES}
-use Rattle.client_world.specs.Access.{HasByte, bytes_of_block}
-use Rattle.client_world.specs.Soundness.{IsSound, pages_of_block}
-use Rattle.client_world.specs.World.{World, MemoryBlock, block_at, base_of_block}
+use Rattle.client_world.specs.{declared.limits.TheConstants.{MAX_BLOCKS}, declared.memory_map.TheConstants.{BLOCK_REGION, BLOCK_REGION_END}}
+use Rattle.client_world.specs.{declared.memory_map.TheConstants.{BLOCK_REGION_PAGES}, Access.{HasByte, bytes_of_block}, Soundness.{IsSound}}
+use Rattle.client_world.specs.{Soundness.{pages_of_block}, World.{World, MemoryBlock, block_at, base_of_block}}
 use Rattle.guest_ram.specs.Bytes.{dword}
-use Rattle.block_memory.specs.BlockChanges.{blocks_held, HasBlockIn}
-use Rattle.block_memory.specs.BlockSizes.{HasPages, row_seen}
-use Rattle.host_memory.specs.Holds.{Holds}
-use Rattle.host_memory.specs.HoldsWorld.{block_page, block_entry}
-use Rattle.host_memory.specs.Layout.{handles_part, tables_part, locks_part, budget_part, pages_of, base_of, held_block}
-use Rattle.host_memory.specs.View.{MachineView}
-use Rattle.host_memory.proofs.BlockRows.{held_base, length-held_locks, block_there, block_free}
-use Rattle.host_memory.proofs.BlocksClaim.{byte_claim, frame_byte}
+use Rattle.block_memory.specs.{BlockChanges.{blocks_held, HasBlockIn}, BlockSizes.{HasPages, row_seen}}
+use Rattle.host_memory.specs.{Holds.{Holds}, HoldsWorld.{block_page}, Layout.{handles_part, pages_of, base_of}, View.{MachineView}}
+use Rattle.host_memory.proofs.{BlockRows.{held_base, length-held_locks, block_there, block_free}, BlocksClaim.{byte_claim, frame_byte}}
 use Rattle.host_memory.proofs.TablesClaim.{HasBlocks, tables_claim}
 use Rattle.guest_space.specs.Machines.{Processor, held_world}
 use Rattle.block_memory.proofs.RowReads.{row_pages_read, row_base_read}
@@ -26,9 +16,6 @@ use Rattle.guest_space.proofs.BlockViews.{IsView, held_blocks, held_budget, hold
 use Rattle.guest_space.proofs.BlockCalls.{at_handle}
 
 -- the row of a handle that is held
-
-abbrev seen : ℕ → ℕ → Option BlockRow
-seen base pages = Some (record { base = base; pages = pages })
 
 row_at_place : (k : Processor) (b : List ℕ) (v : MachineView) → IsView k b v → Holds b k.budget → IsSound (held_world k b) →
     (handle place base pages : ℕ) →

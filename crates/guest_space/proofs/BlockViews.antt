@@ -1,18 +1,11 @@
 -- The blocks that a machine's memory holds are those of its world; and the machine once they are replaced.
-use Rattle.std.proofs.Common.{◌≡◌, ◌≢◌, ℕ, List, ap, sym, subst, Option, None, arith}
-use Rattle.client_world.specs.declared.place.Place.{Place}
-use Rattle.client_world.specs.Access.{IsHeld}
-use Rattle.client_world.specs.Soundness.{IsSound, SoundBlocks, HoldBytes}
-use Rattle.client_world.specs.World.{World, MemoryBlock}
-use Rattle.host_memory.specs.Holds.{Holds}
-use Rattle.host_memory.specs.Layout.{address_of, handles_part}
-use Rattle.host_memory.specs.View.{MachineView}
-use Rattle.host_memory.proofs.BlockRows.{HasRanges}
-use Rattle.host_memory.proofs.ClientPlaces.{ranges_of}
-use Rattle.host_memory.proofs.WorldParts.{blocks_is, budget_is}
+use Rattle.std.proofs.Common.{◌≡◌, ◌≢◌, ℕ, List, subst, Option, None, arith}
+use Rattle.client_world.specs.{declared.place.Place.{Place}, Access.{IsHeld}, Soundness.{IsSound, SoundBlocks, HoldBytes}}
+use Rattle.client_world.specs.World.{MemoryBlock}
+use Rattle.host_memory.specs.{Holds.{Holds}, Layout.{address_of, handles_part}, View.{MachineView}}
+use Rattle.host_memory.proofs.{BlockRows.{HasRanges}, ClientPlaces.{ranges_of}, WorldParts.{blocks_is, budget_is}}
 use Rattle.block_memory.specs.BlockChanges.{blocks_held, HoldsSoundBlocks, ReplacesBlocks}
-use Rattle.block_memory.proofs.PageChanges.{held_in}
-use Rattle.block_memory.proofs.SizedSound.{sound_blocks}
+use Rattle.block_memory.proofs.{PageChanges.{held_in}, SizedSound.{sound_blocks}}
 use Rattle.guest_space.specs.Machines.{Processor, held_world}
 
 -- the view of a machine

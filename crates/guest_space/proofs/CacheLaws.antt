@@ -1,47 +1,25 @@
 -- The cache of translations: a page that is walked once is walked so at each of its bytes, and the walks of a memory stay the same where
 -- the places of linear addresses and the addresses of places do.
-use Rattle.std.proofs.Common.{◌≡◌, ◌≢◌, ℕ, zero, suc, [], ◌∷◌, ◌+◌, ◌*◌, ◌/◌, ◌%◌, ◌<◌, ◌≤◌, ◌^◌, ◌⊎◌, inl, inr, Bool, true, false, not}
-use Rattle.std.proofs.Common.{◌&&◌, ◌||◌, if◌then◌else◌, List, length, slice_index_or, replicate, set, length-set, refl, ap, ◌∙◌, sym}
-use Rattle.std.proofs.Common.{subst, arith, Result, Ok, Err}
-use Rattle.std.proofs.lemmas.Bool.{cases_lt}
-use Rattle.std.proofs.lemmas.List.{get_or-set_other, get_or-set_same}
-use Rattle.client_world.specs.declared.faults.PageFault.{PageFault}
-use Rattle.client_world.specs.declared.host_frames.TheConstants.{PAGE_SIZE, PAGE_DIRECTORY, TABLE_ENTRIES, BUDGET_FRAMES, BLOCK_TABLES}
-use Rattle.client_world.specs.declared.host_frames.TheConstants.{BLOCK_TABLE_FRAMES, BLOCK_ROWS, BLOCK_ROW_FRAMES, DESCRIPTORS}
-use Rattle.client_world.specs.declared.limits.TheConstants.{GREATEST_DEPTH}
-use Rattle.client_world.specs.declared.dos_memory.DosEntry.{DosEntry}
-use Rattle.client_world.specs.DosMemory.{IsArena}
-use Rattle.client_world.specs.Selector.{Row}
+use Rattle.std.proofs.Common.{◌≡◌, ℕ, zero, suc, [], ◌∷◌, ◌+◌, ◌*◌, ◌/◌, ◌%◌, ◌<◌, ◌≤◌, ◌^◌, ◌⊎◌, inl, inr, Bool, true, false}
+use Rattle.std.proofs.Common.{if◌then◌else◌, List, length, slice_index_or, replicate, set, length-set, refl, ap, ◌∙◌, sym, subst, arith}
+use Rattle.std.proofs.{Common.{Result, Ok, Err}, lemmas.Bool.{cases_lt}, lemmas.List.{get_or-set_other, get_or-set_same}}
+use Rattle.client_world.specs.{declared.faults.PageFault.{PageFault}, declared.host_frames.TheConstants.{PAGE_SIZE, PAGE_DIRECTORY}}
+use Rattle.client_world.specs.declared.host_frames.TheConstants.{TABLE_ENTRIES, BUDGET_FRAMES, BLOCK_TABLES, BLOCK_TABLE_FRAMES, BLOCK_ROWS}
+use Rattle.client_world.specs.declared.host_frames.TheConstants.{BLOCK_ROW_FRAMES, DESCRIPTORS}
+use Rattle.client_world.specs.{declared.limits.TheConstants.{GREATEST_DEPTH}, declared.dos_memory.DosEntry.{DosEntry}, DosMemory.{IsArena}}
+use Rattle.client_world.specs.{Selector.{Row}, declared.place.Place.{Place}, Access.{place_in, place_of, places_from}, Soundness.{IsSound}}
 use Rattle.guest_ram.specs.Bytes.{put}
 use Rattle.guest_ram.proofs.PutLaws.{region-put_away}
 use Rattle.desc_table.specs.Rows.{row_address, row_bytes}
 use Rattle.desc_table.proofs.RowLaws.{length-row_bytes}
-use Rattle.client_world.specs.declared.place.Place.{Place}
-use Rattle.client_world.specs.Access.{place_in, place_of, places_from}
-use Rattle.client_world.specs.Registers.{has_bit}
-use Rattle.client_world.specs.Soundness.{IsSound}
-use Rattle.host_memory.specs.Holds.{Holds}
-use Rattle.host_memory.specs.Law.{walk_result}
-use Rattle.host_memory.specs.Layout.{address_of}
-use Rattle.host_memory.specs.View.{MachineView}
-use Rattle.host_memory.specs.Records.{record_size}
-use Rattle.host_memory.proofs.Parts.{MemoryParts, addresses_by}
-use Rattle.host_memory.proofs.WalkLaw.{walk_agrees}
-use Rattle.page_tables.specs.Entry.{allows}
-use Rattle.page_tables.specs.Walk.{walked, walk_end, fault, frame_of, directory_entry, table_entry}
-use Rattle.page_tables.specs.declared.entry.TheConstants.{TABLE_SPAN, PRESENT}
-use Rattle.guest_space.specs.declared.pages.CacheEntry.{CacheEntry}
-use Rattle.guest_space.specs.Cache.{ends, Hit, cached_answer, Warm, empty_entry}
-use Rattle.guest_space.specs.declared.pages.TheConstants.{CACHE_SIZE}
-use Rattle.guest_space.specs.Machines.{Processor, IsMachine, held_world}
-use Rattle.guest_space.specs.Records.{record_place}
+use Rattle.host_memory.specs.{Holds.{Holds}, Law.{walk_result}, Layout.{address_of}, View.{MachineView}, Records.{record_size}}
+use Rattle.host_memory.proofs.{Parts.{addresses_by, addresses_of}, WalkLaw.{walk_agrees}}
+use Rattle.page_tables.specs.{Walk.{walked, walk_end, fault, directory_entry, table_entry}, declared.entry.TheConstants.{TABLE_SPAN}}
+use Rattle.guest_space.specs.{declared.pages.CacheEntry.{CacheEntry}, Cache.{ends, Hit, cached_answer, Warm, empty_entry}}
+use Rattle.guest_space.specs.{declared.pages.TheConstants.{CACHE_SIZE}, Machines.{Processor, IsMachine, held_world}, Records.{record_place}}
 use Rattle.guest_space.specs.Transfer.{translated, with_places}
-use Rattle.guest_space.proofs.ArenaWrites.{with_arena, arena_parts}
-use Rattle.guest_space.proofs.KeptAccess.{same_places}
-use Rattle.guest_space.proofs.Machines.{AllBytes, machine_of, sound_blocks}
-use Rattle.guest_space.proofs.Puts.{store_bytes}
-use Rattle.guest_space.proofs.Runs.{can_write_run, run_all}
-use Rattle.guest_space.proofs.WriteRuns.{places_keep_addresses}
+use Rattle.guest_space.proofs.{ArenaWrites.{with_arena, arena_has}, KeptAccess.{same_places}, Machines.{AllBytes, machine_of, sound_blocks}}
+use Rattle.guest_space.proofs.{Puts.{store_bytes}, Runs.{can_write_run, run_all}, WriteRuns.{places_keep_addresses}}
 
 abbrev IsYes : Bool → Type 0
 IsYes true = Unit {0}
@@ -80,10 +58,6 @@ hit_ends b e lin write hit page may = grind (arith, noted_ends)
 abbrev IsEnd : Result ℕ PageFault → Type 0
 IsEnd (Ok p) = Unit {0}
 IsEnd (Err f) = ⊥
-
-abbrev end_or : ℕ → Result ℕ PageFault → ℕ
-end_or d (Ok p) = p
-end_or d (Err f) = d
 
 abbrev end_at : ℕ → Result ℕ PageFault
 end_at p = Ok p
@@ -218,8 +192,7 @@ record_beside place xs small size = record { tables = inr (omega arith); handles
 pub arena_addresses : (b : List ℕ) (budget : ℕ) (es : List DosEntry) → Holds b budget → IsArena es → (p : Place) →
     address_of (with_arena b es) p ≡ address_of b p
 arena_addresses b budget es holds arena =
-    let parts = arena_parts b budget es holds.size arena in
-    addresses_by b (with_arena b es) (ap (λ (p : MemoryParts). p.handles) parts) (ap (λ (p : MemoryParts). p.tables) parts)
+    addresses_of b (with_arena b es) budget _ (arena_has b budget es holds arena) refl refl
 
 -- a write of the client
 pub write_addresses_all : (k : Processor) (v : MachineView) (lin n p : ℕ) (bytes : List ℕ) → IsMachine k v → lin < 2 ^ 32 →

@@ -1,11 +1,8 @@
 -- The code bytes as words of the memory.
 use Rattle.std.proofs.Common.{◌≡◌, ℕ, ◌+◌, ◌<◌, ◌≤◌, ◌++◌, List, length, take, drop, get_or, ap, ◌∙◌, sym, refl, arith, ◌⊎◌, inl, inr}
-use Rattle.std.proofs.lemmas.List.{drop-take, drop-drop, get_or_past}
-use Rattle.std.proofs.lemmas.Bool.{cases_lt}
-use Rattle.std.proofs.lemmas.Nat.{le_bytes_8}
+use Rattle.std.proofs.{lemmas.List.{drop-take, drop-drop, get_or_past}, lemmas.Bool.{cases_lt}, lemmas.Nat.{le_bytes_8}}
 use Rattle.std.proofs.Math.Seq.{take-add}
 use Rattle.std.specs.Int.{w64, from_le_bytes, to_le_bytes}
-use Rattle.client_world.specs.declared.code.CodeWords.{CodeWords}
 use Rattle.client_world.specs.CodeWords.{code_bytes}
 use Rattle.guest_ram.specs.Bytes.{AreBytes, region}
 use Rattle.guest_ram.proofs.PutLaws.{length-region, at_region}
@@ -44,6 +41,3 @@ words_of_region b at low high bytes inside first second =
     ∙ ap (drop 1) (sym (bytes_of_region b (at + 7) bytes (omega arith)) ∙ ap (to_le_bytes w64) (sym second)))
 
 -- there are 15 of them
-length-code_bytes : (words : CodeWords) → length (code_bytes words) ≡ 15
-unfolding code_bytes
-length-code_bytes words = refl

@@ -1,23 +1,15 @@
 -- Code bytes: one by one, and all at once where they can be read together.
 use Rattle.std.proofs.Common.{◌≡◌, ℕ, zero, suc, ◌+◌, ◌-◌, ◌%◌, ◌<◌, ◌≤◌, ◌^◌, false, List, [], ◌∷◌, ◌++◌, length, slice_index, refl, ap}
-use Rattle.std.proofs.Common.{◌∙◌, sym, arith, None, Some, Result, Ok, Err, add-zero, append_assoc}
-use Rattle.std.proofs.lemmas.List.{append-nil}
+use Rattle.std.proofs.{Common.{◌∙◌, sym, arith, None, Some, Result, Ok, Err, add-zero, append_assoc}, lemmas.List.{append-nil}}
 use Rattle.std.specs.declared.option.Option.{Option}
-use Rattle.client_world.specs.declared.faults.Fault.{Fault}
-use Rattle.client_world.specs.declared.place.Place.{Place}
-use Rattle.client_world.specs.declared.place.Place.TheVariants.{Nothing}
-use Rattle.client_world.specs.declared.segments.SegReg.{SegReg}
-use Rattle.client_world.specs.declared.segments.SegReg.TheVariants.{Cs}
-use Rattle.client_world.specs.Access.{access, segment_base, places_at, places_from, place_in, first_forbidden, unless_forbidden, byte_of}
-use Rattle.client_world.specs.Access.{bytes_of, linear}
+use Rattle.client_world.specs.{declared.faults.Fault.{Fault}, declared.place.Place.{Place}, declared.place.Place.TheVariants.{Nothing}}
+use Rattle.client_world.specs.{declared.segments.SegReg.{SegReg}, declared.segments.SegReg.TheVariants.{Cs}, Access.{access, segment_base}}
+use Rattle.client_world.specs.Access.{places_at, places_from, place_in, first_forbidden, unless_forbidden, byte_of, bytes_of, linear}
 use Rattle.client_world.specs.World.{World}
-use Rattle.client_world.proofs.PlaceLaws.{length-places_from, places_from-at}
-use Rattle.client_world.proofs.SoundWrites.{at_bytes_of}
-use Rattle.guest_space.specs.Code.{one_byte, code_byte, code_from}
-use Rattle.guest_space.specs.Transfer.{read_result, bytes_at, linear_access, fault_of}
-use Rattle.guest_space.proofs.Accesses.{loaded_linear, access_refused}
-use Rattle.guest_space.proofs.Parts.{code_base, segment_part}
-use Rattle.guest_space.proofs.Runs.{AllTouch, all_touch, access_ends}
+use Rattle.client_world.proofs.{PlaceLaws.{length-places_from, places_from-at}, SoundWrites.{at_bytes_of}}
+use Rattle.guest_space.specs.{Code.{one_byte, code_byte, code_from}, Transfer.{read_result, bytes_at, linear_access, fault_of}}
+use Rattle.guest_space.proofs.{Accesses.{loaded_linear, access_refused}, Parts.{code_base, segment_part}, Runs.{AllTouch, all_touch}}
+use Rattle.guest_space.proofs.Runs.{access_ends}
 
 -- one byte, through the linear address
 pub fetched : (w : World) (at base : ℕ) → segment_base w.mode w.regs w.descriptors Cs w.regs.eip (at + 1) false ≡ Ok base →

@@ -1,14 +1,9 @@
 -- Two bytes of a short run that the client may write are at two places, so what was written there is read again.
-use Rattle.std.proofs.Common.{◌≡◌, ℕ, suc, ◌+◌, ◌-◌, ◌%◌, ◌<◌, ◌≤◌, ◌^◌, ◌⊎◌, inl, inr, true, false, List, [], ◌∷◌, get_or, refl, ap, ◌∙◌}
-use Rattle.std.proofs.Common.{sym, arith, None, Some, Option}
-use Rattle.std.proofs.lemmas.Bool.{cases_Bool, cases_lt}
-use Rattle.std.proofs.lemmas.Bool.Decides.{nat_tests}
-use Rattle.client_world.specs.declared.place.Place.{Place}
-use Rattle.client_world.specs.declared.place.Place.TheVariants.{Dos, Block, Host, Nothing}
-use Rattle.client_world.specs.declared.host_frames.TheConstants.{PAGE_SIZE}
-use Rattle.client_world.specs.declared.memory_map.TheConstants.{DOS_VIEW_END, BLOCK_REGION, BLOCK_REGION_END, HOST_WINDOW, HOST_WINDOW_END}
-use Rattle.client_world.specs.Access.{place_in, block_place, covers, dos_address, may_touch}
-use Rattle.client_world.specs.World.{MemoryBlock}
+use Rattle.std.proofs.Common.{◌≡◌, ℕ, suc, ◌+◌, ◌-◌, ◌%◌, ◌<◌, ◌≤◌, ◌^◌, ◌⊎◌, inl, inr, true, false, List, [], ◌∷◌, get_or, refl, ap, sym}
+use Rattle.std.proofs.{Common.{arith, None, Some, Option}, lemmas.Bool.{cases_Bool, cases_lt}, lemmas.Bool.Decides.{nat_tests}}
+use Rattle.client_world.specs.{declared.place.Place.{Place}, declared.place.Place.TheVariants.{Dos, Block, Host, Nothing}}
+use Rattle.client_world.specs.{declared.host_frames.TheConstants.{PAGE_SIZE}, declared.memory_map.TheConstants.{DOS_VIEW_END}}
+use Rattle.client_world.specs.{Access.{place_in, block_place, covers, dos_address, may_touch}, World.{MemoryBlock}}
 use Rattle.client_world.proofs.PlaceLaws.{place-dos, place-gap, place-block, place-gap_above_blocks, place-host, place-above}
 
 -- a byte of a block determines the block and the linear address
@@ -77,7 +72,7 @@ dos_not_block (Some block ∷ blocks) start l at e = elim (cases_Bool (covers bl
   | inr not_here ↦ dos_not_block blocks (start + 1) l at (rw not_here at e)
 ]
 
-same_dos : (a b : ℕ) → Dos a ≡ Dos b → a ≡ b
+pub same_dos : (a b : ℕ) → Dos a ≡ Dos b → a ≡ b
 same_dos a b e = cc
 
 -- two addresses that lie close together and have one place are one

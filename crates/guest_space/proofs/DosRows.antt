@@ -1,21 +1,14 @@
 -- The descriptors of a block of DOS memory put one after another: the memory holds the same rows as the world.
 use Rattle.std.proofs.Common.{◌≡◌, ℕ, zero, suc, ◌+◌, ◌-◌, ◌^◌, ◌<◌, ◌≤◌, ◌⊎◌, inl, inr, Bool, List, length, slice_set, refl, ap, ◌∙◌, sym}
-use Rattle.std.proofs.Common.{subst, arith, Option, None, Some, get_or-set_same, get_or-set_other, length-set}
-use Rattle.std.proofs.lemmas.Bool.{cases_eq, cases_lt, eq-eqb, ne_eqb, lt-ltb, le-ltb}
-use Rattle.client_world.specs.declared.descriptors.Origin.{Origin}
-use Rattle.client_world.specs.declared.descriptors.Origin.TheVariants.{Dos}
-use Rattle.client_world.specs.declared.dos_memory.DosRun.{DosRun}
-use Rattle.client_world.specs.declared.host_frames.TheConstants.{DESCRIPTORS}
-use Rattle.client_world.specs.declared.registers.Mode.{Mode}
-use Rattle.client_world.specs.declared.registers.Regs.{Regs}
-use Rattle.client_world.specs.declared.registers.Width.{Width}
-use Rattle.client_world.specs.Selector.{Row, FitsRow, row_at_index}
-use Rattle.client_world.specs.Soundness.{HasOrigin, descriptors_for}
-use Rattle.client_world.specs.World.{World}
+use Rattle.std.proofs.{Common.{subst, arith, Option, None, Some, get_or-set_same, get_or-set_other, length-set}, lemmas.Bool.{cases_eq}}
+use Rattle.std.proofs.lemmas.Bool.{cases_lt, eq-eqb, ne_eqb, lt-ltb, le-ltb}
+use Rattle.client_world.specs.{declared.descriptors.Origin.{Origin}, declared.descriptors.Origin.TheVariants.{Dos}}
+use Rattle.client_world.specs.{declared.dos_memory.DosRun.{DosRun}, declared.host_frames.TheConstants.{DESCRIPTORS}}
+use Rattle.client_world.specs.{declared.registers.Mode.{Mode}, declared.registers.Regs.{Regs}, declared.registers.Width.{Width}}
+use Rattle.client_world.specs.{Selector.{Row, FitsRow, row_at_index}, Soundness.{HasOrigin, descriptors_for}, World.{World}}
 use Rattle.guest_ram.specs.Bytes.{put}
 use Rattle.desc_table.specs.Rows.{row_address, row_bytes}
-use Rattle.host_memory.specs.Holds.{Holds}
-use Rattle.host_memory.specs.Layout.{world_of}
+use Rattle.host_memory.specs.{Holds.{Holds}, Layout.{world_of}}
 use Rattle.host_memory.proofs.RowWrites.{row_world, row_holds}
 use Rattle.guest_space.specs.DosRuns.{dos_row, dos_limit, dos_descriptor, with_dos_rows, with_run_bytes}
 

@@ -1,28 +1,16 @@
 -- The memory after entries of DOS memory were put together with the descriptors of a block: it holds the world with them, which is sound.
-use Rattle.std.proofs.Common.{◌≡◌, ℕ, zero, suc, ◌+◌, ◌<◌, ◌≤◌, List, ap, ◌∙◌, sym, subst, arith, Option}
-use Rattle.client_world.specs.declared.dos_memory.DosEntry.{DosEntry}
-use Rattle.client_world.specs.declared.dos_memory.DosRun.{DosRun}
-use Rattle.client_world.specs.declared.host_frames.TheConstants.{DESCRIPTORS}
-use Rattle.client_world.specs.declared.place.Place.{Place}
-use Rattle.client_world.specs.Soundness.{IsSound}
-use Rattle.client_world.specs.Access.{place_in}
-use Rattle.client_world.specs.World.{World, MemoryBlock}
+use Rattle.std.proofs.Common.{◌≡◌, ℕ, zero, suc, ◌+◌, ◌<◌, ◌≤◌, List, ap, ◌∙◌, sym, subst, arith}
+use Rattle.client_world.specs.{declared.dos_memory.DosEntry.{DosEntry}, declared.dos_memory.DosRun.{DosRun}}
+use Rattle.client_world.specs.{declared.host_frames.TheConstants.{DESCRIPTORS}, declared.place.Place.{Place}, Soundness.{IsSound}}
+use Rattle.client_world.specs.{World.{World}, Selector.{Row}}
 use Rattle.desc_table.specs.Rows.{row_address, row_bytes}
-use Rattle.host_memory.specs.Holds.{Holds}
-use Rattle.host_memory.specs.DosList.{arena_in}
-use Rattle.host_memory.specs.Layout.{address_of, arena_part}
-use Rattle.host_memory.specs.View.{MachineView}
-use Rattle.client_world.specs.Selector.{Row}
-use Rattle.guest_space.specs.Arena.{with_replaced_entries, with_entries}
-use Rattle.guest_space.specs.DosRuns.{CanPutRun, dos_row, rows_of_run, with_dos_rows, with_entries_and_run, with_run_bytes}
-use Rattle.guest_space.specs.declared.machine.Machine.TheInside.{Inside}
-use Rattle.guest_space.specs.Cache.{Warm}
+use Rattle.host_memory.specs.{Holds.{Holds}, DosList.{arena_in}, Layout.{address_of, arena_part}, View.{MachineView}}
+use Rattle.guest_space.specs.{Arena.{with_replaced_entries, with_entries}, DosRuns.{CanPutRun, dos_row, rows_of_run, with_dos_rows}}
+use Rattle.guest_space.specs.{DosRuns.{with_entries_and_run, with_run_bytes}, declared.machine.Machine.TheInside.{Inside}, Cache.{Warm}}
 use Rattle.guest_space.specs.Machines.{held_world}
-use Rattle.guest_space.proofs.ArenaCalls.{put_there}
-use Rattle.guest_space.proofs.ArenaWrites.{with_arena, entries_holds, entries_world, with_entries_rows, with_entries_blocks}
-use Rattle.guest_space.proofs.CacheLaws.{arena_addresses, put_beside, row_beside, kept_warm}
-use Rattle.guest_space.proofs.DosRows.{run_bytes_none, run_bytes_suc, run_holds, run_world}
-use Rattle.guest_space.proofs.DosRunsSound.{IsSound-run}
+use Rattle.guest_space.proofs.{ArenaCalls.{put_there}, ArenaWrites.{with_arena, entries_holds, entries_world, with_entries_rows}}
+use Rattle.guest_space.proofs.{ArenaWrites.{with_entries_blocks}, CacheLaws.{arena_addresses, put_beside, row_beside, kept_warm}}
+use Rattle.guest_space.proofs.{DosRows.{run_bytes_none, run_bytes_suc, run_holds, run_world}, DosRunsSound.{IsSound-run}}
 use Rattle.guest_space.proofs.Insides.{processor_of, view_of, IsWhole}
 
 pub record RunMachine (m : Inside) (v : MachineView) (c : List ℕ) (place old : ℕ) (new : List DosEntry) (run : DosRun) : Type 0 where

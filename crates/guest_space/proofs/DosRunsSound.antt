@@ -1,26 +1,18 @@
 -- Entries of DOS memory put together with the descriptors of a block leave a sound world sound.
 use Rattle.std.proofs.Common.{◌≡◌, ◌≢◌, ℕ, ◌+◌, ◌<◌, ◌≤◌, ◌⊎◌, inl, inr, Bool, true, false, if◌then◌else◌, List, [], ◌∷◌, ◌++◌, length}
-use Rattle.std.proofs.Common.{take, drop, refl, ap, ◌∙◌, sym, subst, arith, Option, None, Some}
-use Rattle.std.proofs.lemmas.Bool.{cases_eq, cases_lt, eq-eqb, ne_eqb}
-use Rattle.client_world.specs.declared.descriptors.Origin.{Origin}
-use Rattle.client_world.specs.declared.descriptors.Origin.TheVariants.{Segment, Dos, Host}
-use Rattle.client_world.specs.declared.dos_memory.DosEntry.{DosEntry}
-use Rattle.client_world.specs.declared.dos_memory.DosRun.{DosRun}
-use Rattle.client_world.specs.declared.host_frames.TheConstants.{DESCRIPTORS}
-use Rattle.client_world.specs.declared.memory_map.TheConstants.{ARENA_START, ARENA_END}
-use Rattle.client_world.specs.declared.registers.Width.{Width}
-use Rattle.client_world.specs.declared.selectors.TheConstants.{HOST_CODE, HOST_STACKS}
-use Rattle.client_world.specs.DosMemory.{Fills, is_dpmi, block_segment}
-use Rattle.client_world.specs.Selector.{Row, FitsRow, row_at_index}
-use Rattle.client_world.specs.Soundness.{IsSound, SoundDescriptors, SoundRuns, SoundWidth, HostRows, HasEntry, HasOrigin, HasRun, IsRunOf}
-use Rattle.client_world.specs.Soundness.{descriptors_for}
-use Rattle.client_world.specs.World.{World}
-use Rattle.guest_space.specs.Arena.{with_replaced_entries, with_entries}
-use Rattle.guest_space.specs.DosRuns.{CanPutRun, block_alone, made_blocks, rows_of_run, with_dos_rows, with_entries_and_run, dos_row}
-use Rattle.guest_space.proofs.ArenaHeaders.{SoundMegabyte-headers}
-use Rattle.guest_space.proofs.ArenaRuns.{Has, has_left, has_right, has_either, has_there, stands, parts_are}
-use Rattle.guest_space.proofs.DosRows.{dos_row_has, dos_row_tells, fits_dos_row, length-dos_rows, of_each_row, row_outside}
-use Rattle.guest_space.proofs.Fills.{fills_long}
+use Rattle.std.proofs.{Common.{take, drop, refl, ◌∙◌, sym, subst, arith, Option, None, Some}, lemmas.Bool.{cases_eq, cases_lt, eq-eqb}}
+use Rattle.std.proofs.lemmas.Bool.{ne_eqb}
+use Rattle.client_world.specs.{declared.descriptors.Origin.{Origin}, declared.descriptors.Origin.TheVariants.{Segment, Dos, Host}}
+use Rattle.client_world.specs.{declared.dos_memory.DosEntry.{DosEntry}, declared.dos_memory.DosRun.{DosRun}}
+use Rattle.client_world.specs.{declared.host_frames.TheConstants.{DESCRIPTORS}, declared.memory_map.TheConstants.{ARENA_START, ARENA_END}}
+use Rattle.client_world.specs.{declared.registers.Width.{Width}, DosMemory.{Fills, is_dpmi, block_segment}, Selector.{Row, FitsRow}}
+use Rattle.client_world.specs.{Selector.{row_at_index}, Soundness.{IsSound, SoundDescriptors, SoundRuns, SoundWidth, HostRows, HasEntry}}
+use Rattle.client_world.specs.{Soundness.{HasOrigin, HasRun, IsRunOf, descriptors_for}, World.{World}}
+use Rattle.guest_space.specs.{Arena.{with_replaced_entries, with_entries}, DosRuns.{CanPutRun, block_alone, made_blocks, rows_of_run}}
+use Rattle.guest_space.specs.DosRuns.{with_dos_rows, with_entries_and_run, dos_row}
+use Rattle.guest_space.proofs.{ArenaHeaders.{SoundMegabyte-headers}, ArenaRuns.{Has, has_left, has_right, has_either, has_there, stands}}
+use Rattle.guest_space.proofs.{ArenaRuns.{parts_are}, DosRows.{dos_row_has, dos_row_tells, fits_dos_row, length-dos_rows, of_each_row}}
+use Rattle.guest_space.proofs.{DosRows.{row_outside}, Fills.{fills_long}, DistinctPlaces.{same_dos}}
 
 -- ---- the blocks among entries
 
@@ -126,9 +118,6 @@ not_segment segment other e = cc
 not_host : (segment : ℕ) → Dos segment ≢ Host
 not_host segment e = cc
 
-same_segment : (segment other : ℕ) → Dos segment ≡ Dos other → segment ≡ other
-same_segment segment other e = cc
-
 rows_sound : (rows : List Row) (run : DosRun) → SoundDescriptors rows → HasRunRows rows run → run.seg < 0x10000 → run.after < 0x10000 →
     SoundDescriptors (with_dos_rows rows run (rows_of_run run))
 rows_sound rows run s h segment after = record {
@@ -152,7 +141,7 @@ width_sound (Some width) w v run s some h from is = rw is (rows_host w.descripto
 
 other_run : (rows : List Row) (run : DosRun) (entry : DosEntry) → HasRunRows rows run → block_segment entry ≢ run.seg → HasRun rows entry →
     HasRun (with_dos_rows rows run (rows_of_run run)) entry
-other_run rows run entry h other has = grind (arith, same_segment, stays_origin, was_origin)
+other_run rows run entry h other has = grind (arith, same_dos, stays_origin, was_origin)
 
 run_after : (rows : List Row) (run : DosRun) → HasRunRows rows run → IsRunOf rows (Dos run.seg) run.first (descriptors_for run.before) →
     IsRunOf (with_dos_rows rows run (rows_of_run run)) (Dos run.seg) run.first (descriptors_for run.after)
@@ -275,25 +264,16 @@ runs_sound w place old new run s can h = record {
         let tells = dos_row_tells run.seg run.after j (Dos segment) has in
         let put = made_there new run.seg run.after can.new_block (λ none. omega (arith, tells.1, none)) in
         let there = stands put.entry (with_replaced_entries w.arena place old new)
-        (has_right put.entry (take place w.arena) _ (has_left put.entry new _ put.has)) in grind (arith, same_segment)
+        (has_right put.entry (take place w.arena) _ (has_left put.entry new _ put.has)) in grind (arith, same_dos)
 
 pub IsSound-run : (w : World) (place old : ℕ) (new : List DosEntry) (run : DosRun) → run.seg < 0x10000 → run.after < 0x10000 → IsSound w →
     CanPutRun w place old new run → IsSound (with_entries_and_run w place old new run)
 unfolding with_entries
 IsSound-run w place old new run segment after s can =
     let h = run_rows w place old new run s.descriptors.indices can in
-    record {
-      segments = s.segments;
-      megabyte = SoundMegabyte-headers w.dos (with_replaced_entries w.arena place old new) ARENA_START s.megabyte can.arena.fills;
-      arena = can.arena;
-      blocks = s.blocks;
-      block_bytes = s.block_bytes;
-      pageable = s.pageable;
-      descriptors = rows_sound w.descriptors run s.descriptors h segment after;
-      runs = runs_sound w place old new run s can h;
-      interrupt_vectors = s.interrupt_vectors;
-      exception_vectors = s.exception_vectors;
-      callbacks = s.callbacks;
-      depth = s.depth;
-      width = width_sound w.width w _ run s.width can.width h can.from refl;
-    }
+    let megabyte = SoundMegabyte-headers w.dos (with_replaced_entries w.arena place old new) ARENA_START s.megabyte can.arena.fills in
+    let descriptors = rows_sound w.descriptors run s.descriptors h segment after in
+    let runs = runs_sound w place old new run s can h in
+    let u = with_entries_and_run w place old new run in
+    let width : SoundWidth u.width u = width_sound w.width w _ run s.width can.width h can.from refl in
+    assumption

@@ -1,20 +1,14 @@
 -- The machine after the entry to protected mode: its memory holds a world with a width and the two descriptors of the host, which is sound.
 use Rattle.std.proofs.Common.{◌≡◌, ℕ, Bool, List, slice_set, ap, ◌∙◌, sym, subst, arith, Option, None, Some}
-use Rattle.client_world.specs.declared.registers.Mode.{Mode}
-use Rattle.client_world.specs.declared.registers.Regs.{Regs}
-use Rattle.client_world.specs.declared.registers.Width.{Width}
-use Rattle.client_world.specs.declared.selectors.TheConstants.{HOST_CODE, HOST_STACKS}
-use Rattle.client_world.specs.Soundness.{IsSound, host_code, host_stacks}
-use Rattle.client_world.specs.World.{World}
+use Rattle.client_world.specs.{declared.registers.Mode.{Mode}, declared.registers.Regs.{Regs}, declared.registers.Width.{Width}}
+use Rattle.client_world.specs.{declared.selectors.TheConstants.{HOST_CODE, HOST_STACKS}, Soundness.{IsSound, host_code, host_stacks}}
+use Rattle.client_world.specs.{World.{World}, declared.place.Place.{Place}}
 use Rattle.guest_ram.specs.Bytes.{put}
 use Rattle.desc_table.specs.Rows.{row_address, row_bytes}
-use Rattle.client_world.specs.declared.place.Place.{Place}
 use Rattle.guest_ram.proofs.PutLaws.{length-put}
-use Rattle.host_memory.specs.Layout.{address_of, world_of}
-use Rattle.host_memory.specs.Holds.{Holds}
+use Rattle.host_memory.specs.{Layout.{address_of, world_of}, Holds.{Holds}}
 use Rattle.host_memory.proofs.RowWrites.{row_world, row_holds}
-use Rattle.guest_space.proofs.CacheLaws.{put_beside, row_beside}
-use Rattle.guest_space.proofs.HostRows.{with_host_rows, fits_code, fits_stacks, IsSound-width}
+use Rattle.guest_space.proofs.{CacheLaws.{put_beside, row_beside}, HostRows.{with_host_rows, fits_code, fits_stacks, IsSound-width}}
 use Rattle.guest_space.proofs.OwnParts.{width_world}
 
 abbrev with_code : List ℕ → List ℕ

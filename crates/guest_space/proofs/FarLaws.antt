@@ -1,45 +1,27 @@
 -- The laws of far pointers: what was written at one is read there, and what is read at a part is that part of what is read.
-use Rattle.std.proofs.Common.{◌≡◌, ℕ, ◌+◌, ◌%◌, ◌<◌, ◌≤◌, ◌^◌, true, false, List, length, refl, ap, ◌∙◌, sym, arith, Result}
-use Rattle.client_world.specs.declared.place.Place.{Place}
-use Rattle.client_world.specs.declared.place.Place.TheVariants.{Dos, Block, Host, Nothing}
-use Rattle.client_world.specs.declared.host_frames.TheConstants.{PAGE_SIZE}
-use Rattle.client_world.specs.declared.segments.FarPtr.{FarPtr}
-use Rattle.client_world.specs.declared.segments.SegReg.TheVariants.{Es}
-use Rattle.client_world.specs.Access.{far_access, is_reachable, place_in, places_from, may_touch, byte_of, bytes_of, linear}
-use Rattle.client_world.specs.Soundness.{IsSound}
-use Rattle.client_world.specs.World.{World}
-use Rattle.client_world.proofs.PlaceLaws.{length-places_from, places_from-at}
-use Rattle.client_world.proofs.SoundWrites.{length-bytes_of, at_bytes_of}
+use Rattle.std.proofs.Common.{◌≡◌, ℕ, ◌+◌, ◌%◌, ◌≤◌, ◌^◌, true, false, List, length, refl, ap, ◌∙◌, sym, arith, Result}
+use Rattle.client_world.specs.{declared.place.Place.{Place}, declared.host_frames.TheConstants.{PAGE_SIZE}}
+use Rattle.client_world.specs.{declared.segments.FarPtr.{FarPtr}, declared.segments.SegReg.TheVariants.{Es}, Access.{far_access}}
+use Rattle.client_world.specs.{Access.{is_reachable, places_from, bytes_of}, Soundness.{IsSound}, World.{World}}
+use Rattle.client_world.proofs.{PlaceLaws.{length-places_from, places_from-at}, SoundWrites.{length-bytes_of, at_bytes_of}}
 use Rattle.guest_ram.specs.Bytes.{region}
 use Rattle.guest_ram.proofs.PutLaws.{length-region, at_region}
 use Rattle.host_memory.specs.View.{MachineView}
-use Rattle.guest_space.specs.Far.{far_bytes, after_far_write, further}
-use Rattle.guest_space.specs.Transfer.{places_of_access, with_places}
-use Rattle.guest_space.proofs.DistinctPlaces.{addresses_apart}
-use Rattle.guest_space.proofs.Fars.{Reached, reached, reachable_where, reachable_linear, far_places, far_bytes_linear, far_written_linear}
-use Rattle.guest_space.proofs.Fars.{parts_reachable}
-use Rattle.guest_space.proofs.KeptAccess.{far_access_same, same_places}
-use Rattle.guest_space.proofs.Machines.{with_places_world}
-use Rattle.guest_space.proofs.Parts.{protected_part, protected_read}
-use Rattle.guest_space.proofs.ReadBack.{AreDistinct, read_back}
-use Rattle.guest_space.proofs.Runs.{AllTouch, can_write_run, bytes_read}
+use Rattle.guest_space.specs.{Far.{far_bytes, after_far_write, further}, Transfer.{places_of_access, with_places}}
+use Rattle.guest_space.proofs.{DistinctPlaces.{addresses_apart}, Fars.{Reached, reached, reachable_where, reachable_linear, far_places}}
+use Rattle.guest_space.proofs.{Fars.{far_bytes_linear, far_written_linear, parts_reachable}, KeptAccess.{far_access_same, same_places}}
+use Rattle.guest_space.proofs.{Machines.{with_places_world}, Parts.{protected_part, protected_read}, ReadBack.{AreDistinct, read_back}}
+use Rattle.guest_space.proofs.{Runs.{AllTouch, can_write_run, bytes_read}, ReadRuns.{place_for_read}}
 
 -- the places of a short run are distinct
 run_distinct : (w : World) (lin n : ℕ) → n ≤ PAGE_SIZE → AllTouch w.blocks lin n true → AreDistinct (places_from w.blocks lin n)
 run_distinct w lin n few all i j one two e = grind (arith, addresses_apart, length-places_from, places_from-at)
 
--- what may be written may be read
-may_read : (p : Place) → may_touch p true ≡ true → may_touch p false ≡ true
-may_read (Dos at) may = refl
-may_read (Block number at) may = refl
-may_read Host may = absurd cc
-may_read Nothing may = absurd cc
-
 read_places : (w : World) (p : FarPtr) (n : ℕ) (run : Reached w p n true) →
     places_of_access (far_access w p n false) ≡ places_from w.blocks ((run.base + p.off) % 2 ^ 32) n
-read_places w p n run = grind (arith, far_places, may_read, protected_read, reachable_linear, reachable_where)
+read_places w p n run = grind (arith, far_places, place_for_read, protected_read, reachable_linear, reachable_where)
 
-far_bytes_is : (w : World) (p : FarPtr) (n : ℕ) → far_bytes w p n ≡ bytes_of w (places_of_access (far_access w p n false))
+pub far_bytes_is : (w : World) (p : FarPtr) (n : ℕ) → far_bytes w p n ≡ bytes_of w (places_of_access (far_access w p n false))
 unfolding far_bytes
 far_bytes_is w p n = refl
 

@@ -1,19 +1,13 @@
 -- What a write at a far pointer leaves of the world: a sound world stays sound, and nothing but memory changes.
 use Rattle.std.proofs.Common.{◌≡◌, ℕ, true, List, refl, Result, Ok, Err}
-use Rattle.client_world.specs.declared.faults.Fault.{Fault}
-use Rattle.client_world.specs.declared.place.Place.{Place}
-use Rattle.client_world.specs.declared.segments.FarPtr.{FarPtr}
-use Rattle.client_world.specs.declared.segments.SegReg.TheVariants.{Es}
-use Rattle.client_world.specs.Access.{far_access, protected_base, with_bytes_of}
-use Rattle.client_world.specs.Soundness.{IsSound}
-use Rattle.client_world.specs.World.{World}
+use Rattle.client_world.specs.{declared.faults.Fault.{Fault}, declared.place.Place.{Place}, declared.segments.FarPtr.{FarPtr}}
+use Rattle.client_world.specs.{declared.segments.SegReg.TheVariants.{Es}, Access.{far_access, protected_base, with_bytes_of}}
+use Rattle.client_world.specs.{Soundness.{IsSound}, World.{World}}
 use Rattle.client_world.proofs.SoundWrites.{MayWrite, IsSound-with_bytes_of}
 use Rattle.guest_ram.specs.Bytes.{AreBytes}
 use Rattle.host_memory.specs.View.{MachineView}
-use Rattle.guest_space.specs.Far.{world_after_far_write, after_far_write}
-use Rattle.guest_space.specs.Transfer.{HasOtherMemory, places_of_access, with_places}
-use Rattle.guest_space.proofs.MemoryAlone.{other_bytes}
-use Rattle.guest_space.proofs.OnlyWritten.{can_write_at}
+use Rattle.guest_space.specs.{Far.{world_after_far_write, after_far_write}, Transfer.{HasOtherMemory, places_of_access, with_places}}
+use Rattle.guest_space.proofs.{MemoryAlone.{other_bytes}, OnlyWritten.{can_write_at}}
 
 far_places_may : (w : World) (p : FarPtr) (n : ℕ) (places : List Place) → far_access w p n true ≡ Ok places → MayWrite places
 unfolding far_access

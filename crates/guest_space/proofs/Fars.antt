@@ -1,19 +1,13 @@
 -- Accesses at far pointers: what is reachable, and the parts of it.
 use Rattle.std.proofs.Common.{◌≡◌, ℕ, ◌+◌, ◌%◌, ◌≤◌, ◌^◌, Bool, true, false, List, refl, ap, ◌∙◌, sym, arith, None, Some, Result, Ok, Err}
 use Rattle.std.specs.Prelude.{IsTrue, MatchResult, is_ok}
-use Rattle.client_world.specs.declared.faults.Fault.{Fault}
-use Rattle.client_world.specs.declared.place.Place.{Place}
-use Rattle.client_world.specs.declared.segments.FarPtr.{FarPtr}
-use Rattle.client_world.specs.declared.segments.SegReg.TheVariants.{Es}
-use Rattle.client_world.specs.Access.{far_access, is_reachable, protected_base, places_at, places_from, place_in, may_touch, linear}
-use Rattle.client_world.specs.Access.{bytes_of}
-use Rattle.client_world.specs.World.{World}
+use Rattle.client_world.specs.{declared.faults.Fault.{Fault}, declared.place.Place.{Place}, declared.segments.FarPtr.{FarPtr}}
+use Rattle.client_world.specs.{declared.segments.SegReg.TheVariants.{Es}, Access.{far_access, is_reachable, protected_base, places_at}}
+use Rattle.client_world.specs.{Access.{places_from, place_in, may_touch, linear, bytes_of}, World.{World}}
 use Rattle.host_memory.specs.View.{MachineView}
-use Rattle.guest_space.specs.Far.{far_bytes, after_far_write, further}
-use Rattle.guest_space.specs.Transfer.{linear_access, fault_of, places_of_access, with_places}
-use Rattle.guest_space.proofs.Accesses.{places_linear, places_linear_access}
-use Rattle.guest_space.proofs.Parts.{protected_part}
-use Rattle.guest_space.proofs.Runs.{AllTouch, all_touch, access_ends}
+use Rattle.guest_space.specs.{Far.{far_bytes, after_far_write, further}, Transfer.{linear_access, fault_of, places_of_access, with_places}}
+use Rattle.guest_space.proofs.{Accesses.{places_linear, places_linear_access}, Parts.{protected_part}, Runs.{AllTouch, all_touch}}
+use Rattle.guest_space.proofs.Runs.{access_ends}
 
 -- through the linear address
 pub far_linear : (w : World) (p : FarPtr) (n base : ℕ) (write : Bool) → protected_base w.descriptors Es p.sel p.off n write ≡ Ok base →

@@ -1,7 +1,6 @@
 -- Entries that fill the paragraphs from one up to another: how many they are, where each is, and what is beside it.
 use Rattle.std.proofs.Common.{◌≡◌, ℕ, zero, suc, ◌+◌, ◌<◌, ◌≤◌, List, [], ◌∷◌, length, get_or, ap, ◌∙◌, sym, arith}
-use Rattle.client_world.specs.declared.dos_memory.DosEntry.{DosEntry}
-use Rattle.client_world.specs.DosMemory.{Fills}
+use Rattle.client_world.specs.{declared.dos_memory.DosEntry.{DosEntry}, DosMemory.{Fills}}
 
 -- each has a paragraph at least
 pub fills_long : (es : List DosEntry) (from to : ℕ) → Fills from es to → from + length es ≤ to

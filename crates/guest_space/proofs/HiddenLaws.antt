@@ -1,38 +1,23 @@
 -- An access is decided from the hidden part of its segment register where there is one, and changes that keep the selectors, the mode and
 -- the rows keep the parts.
-use Rattle.std.proofs.Common.{◌≡◌, ℕ, ◌+◌, ◌*◌, ◌^◌, Bool, true, false, ◌&&◌, not, cond, if◌then◌else◌, List, refl, ap, ◌∙◌, sym, subst}
-use Rattle.std.proofs.Common.{arith, Option, None, Some, Result, Ok, Err}
-use Rattle.std.proofs.lemmas.Bool.Decides.{nat_tests}
-use Rattle.std.specs.Prelude.{nat_eq, nat_le, slice_index_or, slice_set}
-use Rattle.client_world.specs.declared.descriptors.Desc.{Desc}
-use Rattle.client_world.specs.declared.descriptors.Kind.{Kind}
-use Rattle.client_world.specs.declared.descriptors.Kind.TheVariants.{Data, Code}
-use Rattle.client_world.specs.declared.faults.Fault.{Fault}
-use Rattle.client_world.specs.declared.faults.TheConstants.{GENERAL_PROTECTION}
-use Rattle.client_world.specs.declared.memory_map.TheConstants.{PARAGRAPH_SIZE, SEGMENT_SIZE}
-use Rattle.client_world.specs.declared.registers.Mode.{Mode}
-use Rattle.client_world.specs.declared.registers.Mode.TheVariants.{Real, Protected}
-use Rattle.client_world.specs.declared.registers.Regs.{Regs}
-use Rattle.client_world.specs.declared.registers.Width.{Width}
-use Rattle.client_world.specs.declared.place.Place.{Place}
-use Rattle.client_world.specs.declared.segments.SegReg.{SegReg}
-use Rattle.client_world.specs.declared.segments.SegReg.TheVariants.{Es, Cs, Ss, Ds, Fs, Gs}
-use Rattle.client_world.specs.Access.{fault_with, stack_or, suits_register, base_in_row, protected_base, real_base, segment_base}
-use Rattle.client_world.specs.declared.general.TheConstants.{EAX, EBP, EBX, ECX, EDX, ESI, ESP}
-use Rattle.client_world.specs.General.{with_general}
-use Rattle.client_world.specs.Descriptor.{access_byte, byte_limit, expands_down, is_inside, is_writable, kind_bits}
-use Rattle.client_world.specs.Segments.{selector, with_selector}
+use Rattle.std.proofs.Common.{◌≡◌, ℕ, ◌+◌, ◌^◌, Bool, true, false, ◌&&◌, not, cond, if◌then◌else◌, List, refl, ap, ◌∙◌, sym, subst, arith}
+use Rattle.std.proofs.{Common.{Option, None, Some, Result, Ok, Err}, lemmas.Bool.Decides.{nat_tests}}
+use Rattle.std.specs.Prelude.{nat_le, slice_index_or, slice_set}
+use Rattle.client_world.specs.{declared.descriptors.Desc.{Desc}, declared.descriptors.Kind.{Kind}}
+use Rattle.client_world.specs.{declared.descriptors.Kind.TheVariants.{Data, Code}, declared.faults.Fault.{Fault}}
+use Rattle.client_world.specs.{declared.faults.TheConstants.{GENERAL_PROTECTION}, declared.registers.Mode.{Mode}}
+use Rattle.client_world.specs.{declared.registers.Mode.TheVariants.{Real, Protected}, declared.registers.Regs.{Regs}}
+use Rattle.client_world.specs.{declared.registers.Width.{Width}, declared.place.Place.{Place}, declared.segments.SegReg.{SegReg}}
+use Rattle.client_world.specs.{declared.segments.SegReg.TheVariants.{Es, Cs, Ss, Ds, Fs, Gs}, Access.{fault_with, stack_or, base_in_row}}
+use Rattle.client_world.specs.{Access.{protected_base, real_base, segment_base}, General.{with_general}, Descriptor.{access_byte}}
+use Rattle.client_world.specs.{Descriptor.{byte_limit, expands_down, is_inside, is_writable, kind_bits}, Segments.{selector, with_selector}}
 use Rattle.client_world.specs.Selector.{Row, is_null, row_of_selector}
-use Rattle.client_world.specs.World.{World}
 use Rattle.desc_table.specs.Rows.{rows_from, rows_start}
 use Rattle.host_memory.specs.Layout.{world_of}
-use Rattle.host_memory.specs.View.{MachineView}
 use Rattle.host_memory.proofs.RowWrites.{rows_are}
-use Rattle.guest_space.specs.declared.hidden_parts.Hidden.{Hidden}
-use Rattle.guest_space.specs.HiddenParts.{part_in_row, real_part, part_of_selector, found, all_found, number, is_data_with, base_within}
-use Rattle.guest_space.specs.Machines.{Processor, held_world}
-use Rattle.guest_space.specs.SegmentRows.{base_of_row, first_byte, has_size_bit, is_big}
-use Rattle.guest_space.specs.Transfer.{with_places}
+use Rattle.guest_space.specs.{declared.hidden_parts.Hidden.{Hidden}, HiddenParts.{part_in_row, real_part, part_of_selector, found}}
+use Rattle.guest_space.specs.{HiddenParts.{all_found, number, is_data_with, base_within}, Machines.{Processor, held_world}}
+use Rattle.guest_space.specs.{SegmentRows.{base_of_row, first_byte, has_size_bit, is_big}, Transfer.{with_places}}
 use Rattle.guest_space.proofs.MemoryAlone.{other_places}
 
 -- the bits of the access byte are those of the descriptor

@@ -1,13 +1,9 @@
 -- The entry to protected mode makes the two descriptors of the host. Before it there are none, so the world with them is sound.
-use Rattle.std.proofs.Common.{◌≡◌, ◌≢◌, ℕ, List, length, slice_set, ◌∙◌, subst, arith, Option, None, Some, get_or-set_same}
-use Rattle.std.proofs.Common.{get_or-set_other, length-set}
-use Rattle.client_world.specs.declared.descriptors.Origin.TheVariants.{Host}
-use Rattle.client_world.specs.declared.registers.Width.{Width}
-use Rattle.client_world.specs.declared.host_frames.TheConstants.{DESCRIPTORS}
-use Rattle.client_world.specs.declared.selectors.TheConstants.{HOST_CODE, HOST_STACKS}
-use Rattle.client_world.specs.Selector.{Row, FitsRow, row_at_index}
-use Rattle.client_world.specs.Soundness.{IsSound, SoundWidth, HostRows, BeforeEntry, HasOrigin, host_code, host_stacks}
-use Rattle.client_world.specs.World.{World}
+use Rattle.std.proofs.Common.{◌≡◌, ◌≢◌, ℕ, List, length, slice_set, ◌∙◌, arith, Option, None, Some, get_or-set_same, get_or-set_other}
+use Rattle.std.proofs.Common.{length-set}
+use Rattle.client_world.specs.{declared.registers.Width.{Width}, declared.host_frames.TheConstants.{DESCRIPTORS}}
+use Rattle.client_world.specs.{declared.selectors.TheConstants.{HOST_CODE, HOST_STACKS}, Selector.{Row, FitsRow, row_at_index}}
+use Rattle.client_world.specs.{Soundness.{IsSound, SoundWidth, HostRows, BeforeEntry, host_code, host_stacks}, World.{World}}
 use Rattle.client_world.proofs.SoundRows.{host_stands, none_not_dos, sound_descriptors, sound_runs, sound_with_rows}
 
 abbrev pub with_host_rows : List Row → Width → List Row

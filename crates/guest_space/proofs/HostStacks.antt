@@ -1,38 +1,25 @@
 -- The host's protected-mode stacks are writable memory of every client that has entered protected mode; and what a write at a far pointer
 -- leaves.
-use Rattle.std.proofs.Common.{◌≡◌, ◌≢◌, ℕ, ◌+◌, ◌*◌, ◌%◌, ◌<◌, ◌≤◌, ◌^◌, Bool, true, false, List, [], ◌∷◌, refl, ap, ◌∙◌, sym, arith}
-use Rattle.std.proofs.Common.{Option, None, Some, Result, Ok, Err, slice_index_or}
+use Rattle.std.proofs.Common.{◌≡◌, ◌≢◌, ℕ, ◌+◌, ◌*◌, ◌%◌, ◌<◌, ◌≤◌, ◌^◌, Bool, true, false, List, [], ◌∷◌, refl, ap, ◌∙◌, arith, Option}
+use Rattle.std.proofs.{Common.{None, Some, Result, Ok, Err, slice_index_or}, lemmas.Bool.{lt-ltb, le-leb}}
 use Rattle.std.specs.Prelude.{nat_le, ◌&&◌, is_ok}
-use Rattle.std.proofs.lemmas.Bool.{lt-ltb, le-leb}
-use Rattle.client_world.specs.declared.faults.Fault.{Fault}
-use Rattle.client_world.specs.declared.limits.TheConstants.{GREATEST_DEPTH}
-use Rattle.client_world.specs.declared.memory_map.TheConstants.{PROTECTED_STACKS, PROTECTED_STACK_SIZE, ROM_START, DOS_SIZE}
-use Rattle.client_world.specs.declared.place.Place.{Place}
-use Rattle.client_world.specs.declared.place.Place.TheVariants.{Dos, Block, Host, Nothing}
-use Rattle.client_world.specs.declared.calls.Record.{Record}
-use Rattle.client_world.specs.declared.registers.Mode.{Mode}
-use Rattle.client_world.specs.declared.registers.Mode.TheVariants.{Real, Protected}
-use Rattle.client_world.specs.declared.registers.Regs.{Regs}
-use Rattle.client_world.specs.declared.registers.Width.{Width}
-use Rattle.client_world.specs.declared.segments.FarPtr.{FarPtr}
-use Rattle.client_world.specs.declared.segments.SegReg.TheVariants.{Es, Ss}
-use Rattle.client_world.specs.declared.selectors.TheConstants.{HOST_STACKS}
-use Rattle.client_world.specs.Access.{access, base_in_row, byte_of, bytes_of, far_access, is_reachable, linear, may_touch, place_in}
-use Rattle.client_world.specs.Access.{places_at, places_from, protected_base, segment_base}
-use Rattle.client_world.specs.Selector.{Row, selector_of}
-use Rattle.client_world.specs.Soundness.{IsSound, SoundWidth, host_stacks}
-use Rattle.client_world.specs.World.{World, MemoryBlock}
+use Rattle.client_world.specs.{declared.faults.Fault.{Fault}, declared.limits.TheConstants.{GREATEST_DEPTH}}
+use Rattle.client_world.specs.declared.memory_map.TheConstants.{PROTECTED_STACKS, PROTECTED_STACK_SIZE, ROM_START}
+use Rattle.client_world.specs.{declared.place.Place.{Place}, declared.place.Place.TheVariants.{Dos, Block, Host, Nothing}}
+use Rattle.client_world.specs.{declared.calls.Record.{Record}, declared.registers.Mode.{Mode}, declared.registers.Mode.TheVariants.{Real}}
+use Rattle.client_world.specs.{declared.registers.Mode.TheVariants.{Protected}, declared.registers.Regs.{Regs}}
+use Rattle.client_world.specs.{declared.registers.Width.{Width}, declared.segments.FarPtr.{FarPtr}}
+use Rattle.client_world.specs.{declared.segments.SegReg.TheVariants.{Es, Ss}, declared.selectors.TheConstants.{HOST_STACKS}}
+use Rattle.client_world.specs.Access.{access, base_in_row, byte_of, bytes_of, far_access, is_reachable, may_touch, place_in, places_from}
+use Rattle.client_world.specs.{Access.{protected_base, segment_base}, Selector.{Row, selector_of}, Soundness.{IsSound, SoundWidth}}
+use Rattle.client_world.specs.{Soundness.{host_stacks}, World.{World, MemoryBlock}}
 use Rattle.client_world.proofs.PlaceLaws.{place-dos, places_from-at}
-use Rattle.host_memory.specs.Holds.{Holds}
-use Rattle.host_memory.specs.Layout.{world_of}
-use Rattle.host_memory.specs.View.{MachineView, OnlyAt}
+use Rattle.host_memory.specs.{Holds.{Holds}, Layout.{world_of}, View.{MachineView, OnlyAt}}
 use Rattle.host_memory.proofs.WorldParts.{budget_is}
-use Rattle.guest_space.specs.Far.{far_bytes, after_far_write}
-use Rattle.guest_space.specs.Machines.{Processor}
-use Rattle.guest_space.specs.Transfer.{bytes_at, read_result, with_places, places_of_access}
-use Rattle.guest_space.proofs.Fars.{far_places, reachable_linear, reachable_where}
-use Rattle.guest_space.proofs.Machines.{CanWriteAll}
-use Rattle.guest_space.proofs.OnlyWritten.{HoldsBlocks, only_places, can_write_at}
+use Rattle.guest_space.specs.{Far.{far_bytes, after_far_write}, Machines.{Processor}, Transfer.{bytes_at, read_result, with_places}}
+use Rattle.guest_space.specs.Transfer.{places_of_access}
+use Rattle.guest_space.proofs.{Fars.{far_places, reachable_linear, reachable_where}, Machines.{CanWriteAll}, OnlyWritten.{HoldsBlocks}}
+use Rattle.guest_space.proofs.OnlyWritten.{only_places, can_write_at}
 
 -- a byte of the megabyte below its read-only part may be read and written
 may_low : (at : ℕ) (write : Bool) → at < ROM_START → may_touch (Dos at) write ≡ true
@@ -69,13 +56,13 @@ stacks_reachable w off n write s some room =
     (λ i less. grind (arith, low_place))
 
 -- a write at a far pointer changes the memory's bytes at its places alone
-only_where : (k : Processor) (v : MachineView) (r : Result (List Place) Fault) (bytes : List ℕ) → HoldsBlocks k v →
+pub only_where : (k : Processor) (v : MachineView) (r : Result (List Place) Fault) (bytes : List ℕ) → HoldsBlocks k v →
     ((places : List Place) → r ≡ Ok places → CanWriteAll v.world places) →
     OnlyAt (places_of_access r) v.bytes (with_places v (places_of_access r) bytes).bytes
 only_where k v (Ok places) bytes h can = only_places k v places bytes h (can places refl)
 only_where k v (Err f) bytes h can = only_places k v [] bytes h (λ i within. absurd (omega arith))
 
-far_can_write : (w : World) (p : FarPtr) (n : ℕ) (places : List Place) → far_access w p n true ≡ Ok places → CanWriteAll w places
+pub far_can_write : (w : World) (p : FarPtr) (n : ℕ) (places : List Place) → far_access w p n true ≡ Ok places → CanWriteAll w places
 unfolding far_access
 far_can_write w p n places e = can_write_at w (protected_base w.descriptors Es p.sel p.off n true) p.off n places e
 

@@ -1,24 +1,14 @@
 -- A machine from inside: its processor, what holds of it at every call, and the machine once its memory has other bytes.
 use Rattle.std.proofs.Common.{◌≡◌, ℕ, ◌+◌, ◌%◌, ◌<◌, ◌≤◌, ◌^◌, true, Ok, List, length, refl, ap, ◌∙◌, sym, arith}
-use Rattle.client_world.specs.declared.host_frames.TheConstants.{PAGE_SIZE}
-use Rattle.client_world.specs.declared.place.Place.{Place}
-use Rattle.client_world.specs.Access.{place_in}
-use Rattle.client_world.specs.Soundness.{IsSound}
-use Rattle.client_world.specs.World.{World}
+use Rattle.client_world.specs.{declared.host_frames.TheConstants.{PAGE_SIZE}, declared.place.Place.{Place}, Access.{place_in}}
+use Rattle.client_world.specs.{Soundness.{IsSound}, World.{World}}
 use Rattle.desc_table.specs.Rows.{rows_from, rows_start}
 use Rattle.guest_ram.specs.Bytes.{put}
-use Rattle.host_memory.specs.Holds.{Holds}
-use Rattle.host_memory.specs.Layout.{address_of}
-use Rattle.host_memory.specs.View.{MachineView}
-use Rattle.guest_space.specs.declared.machine.Machine.TheInside.{Inside}
-use Rattle.guest_space.specs.Cache.{Warm}
-use Rattle.guest_space.specs.HiddenParts.{all_found}
-use Rattle.guest_space.specs.Machines.{Processor, held_world, IsMachine}
-use Rattle.guest_space.specs.Transfer.{translated}
-use Rattle.guest_space.proofs.CacheLaws.{kept_warm, written_warm, write_addresses_all}
-use Rattle.guest_space.proofs.HiddenLaws.{kept, kept_places}
-use Rattle.guest_space.proofs.Machines.{AllBytes}
-use Rattle.guest_space.proofs.Puts.{store_opened, store_is}
+use Rattle.host_memory.specs.{Holds.{Holds}, Layout.{address_of}, View.{MachineView}}
+use Rattle.guest_space.specs.{declared.machine.Machine.TheInside.{Inside}, Cache.{Warm}, HiddenParts.{all_found}, Machines.{Processor}}
+use Rattle.guest_space.specs.{Machines.{held_world, IsMachine}, Transfer.{translated}}
+use Rattle.guest_space.proofs.{CacheLaws.{kept_warm, written_warm, write_addresses_all}, HiddenLaws.{kept, kept_places}}
+use Rattle.guest_space.proofs.{Machines.{AllBytes}, Puts.{store_opened, store_is}}
 
 abbrev pub processor_of : Inside → Processor
 processor_of m = record { budget = m.pages; mode = m.mode; regs = m.regs; vif = m.vif; width = m.width }

@@ -1,23 +1,13 @@
 -- A write moves no place: the same accesses are allowed after it, at the same places, and the same are refused.
-use Rattle.std.proofs.Common.{◌≡◌, ℕ, ◌+◌, Bool, List, [], ◌∷◌, refl, ap, ◌∙◌, Result, Ok, Err, arith}
-use Rattle.std.specs.Prelude.{is_ok}
-use Rattle.client_world.specs.declared.faults.Fault.{Fault}
-use Rattle.client_world.specs.declared.place.Place.{Place}
-use Rattle.client_world.specs.declared.registers.Mode.{Mode}
-use Rattle.client_world.specs.declared.registers.Regs.{Regs}
-use Rattle.client_world.specs.declared.segments.FarPtr.{FarPtr}
-use Rattle.client_world.specs.declared.segments.SegReg.{SegReg}
-use Rattle.client_world.specs.declared.segments.SegReg.TheVariants.{Es}
-use Rattle.client_world.specs.Access.{access, far_access, is_reachable, segment_base, protected_base, place_in, places_at, touched_places}
-use Rattle.client_world.specs.Access.{with_byte_of, with_bytes_of}
-use Rattle.client_world.specs.Selector.{Row}
-use Rattle.client_world.specs.World.{World, MemoryBlock}
+use Rattle.std.proofs.Common.{◌≡◌, ℕ, Bool, List, [], ◌∷◌, refl, ap, ◌∙◌, Result, Ok, Err, arith}
+use Rattle.std.specs.{Prelude.{is_ok}, declared.option.Option.{Option}}
+use Rattle.client_world.specs.{declared.faults.Fault.{Fault}, declared.place.Place.{Place}, declared.segments.FarPtr.{FarPtr}}
+use Rattle.client_world.specs.{declared.segments.SegReg.{SegReg}, Access.{access, far_access, is_reachable, place_in, places_at}}
+use Rattle.client_world.specs.{Access.{with_byte_of, with_bytes_of}, World.{World, MemoryBlock}}
 use Rattle.client_world.proofs.PlaceLaws.{place_in-with_byte_of, places_from-same}
-use Rattle.std.specs.declared.option.Option.{Option}
 use Rattle.host_memory.specs.View.{MachineView}
 use Rattle.guest_space.specs.Transfer.{with_places, after_store, access_fault, fault_of}
-use Rattle.guest_space.proofs.Machines.{with_places_world}
-use Rattle.guest_space.proofs.MemoryAlone.{other_bytes}
+use Rattle.guest_space.proofs.{Machines.{with_places_world}, MemoryAlone.{other_bytes}}
 
 -- two worlds that an access can't tell apart
 pub record SameAccess (w u : World) : Type 0 where

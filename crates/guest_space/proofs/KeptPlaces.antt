@@ -1,9 +1,7 @@
 -- Lock counts and cleared pages leave every place where it is: a block keeps its base and the number of its bytes.
-use Rattle.std.proofs.Common.{◌≡◌, ℕ, zero, suc, ◌+◌, ◌*◌, ◌/◌, List, [], ◌∷◌, set, get_or, refl, Option, None, Some, arith}
-use Rattle.client_world.specs.declared.host_frames.TheConstants.{PAGE_SIZE}
-use Rattle.client_world.specs.declared.place.Place.{Place}
-use Rattle.client_world.specs.declared.place.Place.TheVariants.{Dos, Block, Host, Nothing}
-use Rattle.client_world.specs.Access.{block_place, place_in}
+use Rattle.std.proofs.Common.{◌≡◌, ℕ, zero, suc, ◌+◌, ◌*◌, List, [], ◌∷◌, set, get_or, refl, Option, None, Some, arith}
+use Rattle.client_world.specs.{declared.host_frames.TheConstants.{PAGE_SIZE}, declared.place.Place.{Place}}
+use Rattle.client_world.specs.{declared.place.Place.TheVariants.{Dos, Block, Host, Nothing}, Access.{block_place, place_in}}
 use Rattle.client_world.specs.World.{MemoryBlock}
 use Rattle.client_world.proofs.PlaceLaws.{place_in-same}
 use Rattle.guest_ram.specs.Listed.{copies}

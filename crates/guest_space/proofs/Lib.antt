@@ -47,6 +47,7 @@ pub mod RecordRuns
 pub mod RecordWrites
 pub mod RowCalls
 pub mod Runs
+pub mod SoundBytes
 pub mod SoundLists
 pub mod VectorCalls
 pub mod WindowLaws

@@ -1,29 +1,16 @@
 -- The laws of walks and of writes, of the view of a machine.
-use Rattle.std.proofs.Common.{◌≡◌, ℕ, ◌<◌, ◌^◌, Bool, true, List, [], None, Some, OnOk, IfErr, refl, ap, ◌∙◌, sym, subst, arith, Result, Ok}
-use Rattle.std.proofs.Common.{Err}
-use Rattle.client_world.specs.declared.faults.Fault.{Fault}
-use Rattle.client_world.specs.declared.host_frames.TheConstants.{PAGE_DIRECTORY}
-use Rattle.client_world.specs.declared.place.Place.{Place}
-use Rattle.client_world.specs.declared.segments.FarPtr.{FarPtr}
-use Rattle.client_world.specs.declared.segments.SegReg.{SegReg}
-use Rattle.client_world.specs.Access.{access, far_access, may_touch, place_of}
-use Rattle.client_world.specs.Soundness.{IsSound, SoundBlocks}
-use Rattle.client_world.specs.World.{World}
+use Rattle.std.proofs.Common.{◌≡◌, ℕ, ◌<◌, ◌^◌, Bool, true, List, None, Some, OnOk, IfErr, sym, subst, arith, Result, Ok, Err}
+use Rattle.client_world.specs.{declared.faults.Fault.{Fault}, declared.host_frames.TheConstants.{PAGE_DIRECTORY}}
+use Rattle.client_world.specs.{declared.place.Place.{Place}, declared.segments.FarPtr.{FarPtr}, declared.segments.SegReg.{SegReg}}
+use Rattle.client_world.specs.{Access.{access, far_access, may_touch, place_of}, Soundness.{IsSound}, World.{World}}
 use Rattle.page_tables.specs.Walk.{walked}
-use Rattle.host_memory.specs.Law.{walk_result, StandsAt}
-use Rattle.host_memory.specs.View.{MachineView, OnlyAt}
-use Rattle.host_memory.proofs.OnlyAtLaws.{only_start}
-use Rattle.host_memory.proofs.WalkLaw.{walk_agrees}
-use Rattle.guest_space.specs.declared.pending.Write.{Write}
-use Rattle.guest_space.specs.Far.{after_far_write}
-use Rattle.guest_space.specs.Machines.{Processor, IsMachine, HoldsItsWorld}
+use Rattle.host_memory.specs.{Law.{walk_result, StandsAt}, View.{MachineView, OnlyAt}}
+use Rattle.host_memory.proofs.{OnlyAtLaws.{only_start}, WalkLaw.{walk_agrees}}
+use Rattle.guest_space.specs.{declared.pending.Write.{Write}, Far.{after_far_write}, Machines.{Processor, IsMachine, HoldsItsWorld}}
 use Rattle.guest_space.specs.Pending.{after_writes, byte_count, first_write_fault, number_bytes, places_of_writes, write_fault, after_write}
-use Rattle.guest_space.specs.Transfer.{places_of_access, access_fault, after_store, with_places}
-use Rattle.guest_space.proofs.HostStacks.{only_far}
-use Rattle.guest_space.proofs.Machines.{CanWriteAll, sound_blocks, stands_there}
-use Rattle.guest_space.proofs.OnlyWritten.{HoldsBlocks, only_places, write_places}
-use Rattle.guest_space.proofs.Writes.{Answered}
-use Rattle.guest_space.proofs.WritesOnly.{only_writes}
+use Rattle.guest_space.specs.Transfer.{places_of_access, access_fault, after_store}
+use Rattle.guest_space.proofs.{HostStacks.{only_far, only_where}, Machines.{sound_blocks, stands_there}, OnlyWritten.{HoldsBlocks}}
+use Rattle.guest_space.proofs.{OnlyWritten.{write_places}, Writes.{Answered}, WritesOnly.{only_writes}}
 
 -- a walk of the page tables ends where the client may touch, and else fails as the place says
 pub machine_walks : (v : MachineView) → HoldsItsWorld v → (lin : ℕ) (write : Bool) → lin < 2 ^ 32 →
@@ -38,12 +25,6 @@ machine_stands v h lin write may = stands_there h.processor v lin write h.machin
 -- a write through a segment register
 holds_blocks : (k : Processor) (v : MachineView) → IsMachine k v → HoldsBlocks k v
 holds_blocks k v m = grind (arith, sound_blocks)
-
-only_where : (k : Processor) (v : MachineView) (r : Result (List Place) Fault) (bytes : List ℕ) → HoldsBlocks k v →
-    ((places : List Place) → r ≡ Ok places → CanWriteAll v.world places) →
-    OnlyAt (places_of_access r) v.bytes (with_places v (places_of_access r) bytes).bytes
-only_where k v (Ok places) bytes h can = only_places k v places bytes h (can places refl)
-only_where k v (Err f) bytes h can = only_places k v [] bytes h (λ i within. absurd (omega arith))
 
 pub machine_near : (v : MachineView) → HoldsItsWorld v → (seg : SegReg) (offset n : ℕ) (bytes : List ℕ) →
     OnlyAt (places_of_access (access v.world seg offset n true)) v.bytes (after_store v seg offset n bytes).bytes

@@ -1,22 +1,12 @@
 -- A view whose bytes hold its world, as every machine's do, and one byte that is written where the client may write.
 use Rattle.std.proofs.Common.{◌≡◌, ℕ, suc, ◌<◌, Bool, true, List, [], ◌∷◌, length, slice_index, slice_index_or, slice_set, refl, ap, ◌∙◌}
 use Rattle.std.proofs.Common.{sym, subst, arith}
-use Rattle.client_world.specs.declared.place.Place.{Place}
-use Rattle.client_world.specs.declared.place.Place.TheVariants.{Nothing}
-use Rattle.client_world.specs.Access.{place_in, may_touch, with_byte_of, with_bytes_of, IsHeld}
-use Rattle.client_world.specs.Soundness.{IsSound, SoundBlocks}
-use Rattle.client_world.specs.World.{World}
-use Rattle.client_world.proofs.PlaceLaws.{held-place, place_in-with_byte_of}
-use Rattle.client_world.proofs.SoundWrites.{IsSound-with_byte_of}
-use Rattle.host_memory.specs.Holds.{Holds}
-use Rattle.host_memory.specs.Law.{StandsAt}
-use Rattle.host_memory.specs.Layout.{address_of}
-use Rattle.host_memory.specs.View.{MachineView}
-use Rattle.host_memory.proofs.ByteLaw.{byte_agrees}
-use Rattle.host_memory.proofs.ClientWrites.{write_world, write_holds, write_addresses}
-use Rattle.host_memory.proofs.WorldParts.{budget_is}
-use Rattle.guest_space.specs.Machines.{Processor, held_world, IsMachine, HoldsItsWorld}
-use Rattle.guest_space.specs.Transfer.{with_bytes_at, with_places}
+use Rattle.client_world.specs.{declared.place.Place.{Place}, declared.place.Place.TheVariants.{Nothing}, Access.{place_in, may_touch}}
+use Rattle.client_world.specs.{Access.{with_byte_of, with_bytes_of, IsHeld}, Soundness.{IsSound, SoundBlocks}, World.{World}}
+use Rattle.client_world.proofs.{PlaceLaws.{held-place, place_in-with_byte_of}, SoundWrites.{IsSound-with_byte_of}}
+use Rattle.host_memory.specs.{Holds.{Holds}, Law.{StandsAt}, Layout.{address_of}, View.{MachineView}}
+use Rattle.host_memory.proofs.{ByteLaw.{byte_agrees}, ClientWrites.{write_world, write_holds, write_addresses}, WorldParts.{budget_is}}
+use Rattle.guest_space.specs.{Machines.{Processor, held_world, IsMachine, HoldsItsWorld}, Transfer.{with_bytes_at, with_places}}
 
 pub machine_of : (k : Processor) (b : List ℕ) → Holds b k.budget → IsSound (held_world k b) →
     IsMachine k (record { world = held_world k b; bytes = b })

@@ -1,14 +1,9 @@
 -- A write changes memory alone.
 use Rattle.std.proofs.Common.{ℕ, List, [], ◌∷◌, refl, ap, ◌∙◌}
-use Rattle.client_world.specs.declared.place.Place.{Place}
-use Rattle.client_world.specs.declared.place.Place.TheVariants.{Dos, Block, Host, Nothing}
-use Rattle.client_world.specs.declared.segments.FarPtr.{FarPtr}
-use Rattle.client_world.specs.Access.{with_byte_of, with_bytes_of}
-use Rattle.client_world.specs.World.{World}
+use Rattle.client_world.specs.{declared.place.Place.{Place}, declared.place.Place.TheVariants.{Dos, Block, Host, Nothing}}
+use Rattle.client_world.specs.{declared.segments.FarPtr.{FarPtr}, Access.{with_byte_of, with_bytes_of}, World.{World}}
 use Rattle.host_memory.specs.View.{MachineView}
-use Rattle.guest_space.specs.declared.pending.Write.{Write}
-use Rattle.guest_space.specs.Far.{after_far_write}
-use Rattle.guest_space.specs.Pending.{after_writes, after_write}
+use Rattle.guest_space.specs.{declared.pending.Write.{Write}, Far.{after_far_write}, Pending.{after_writes, after_write}}
 use Rattle.guest_space.specs.Transfer.{after_store, with_places, HasOtherMemory}
 use Rattle.guest_space.proofs.Machines.{with_places_world}
 

@@ -1,19 +1,12 @@
 -- Where a byte may be fetched, a near transfer may go.
-use Rattle.std.proofs.Common.{◌≡◌, ℕ, ◌+◌, Bool, true, false, ◌&&◌, ◌||◌, not, if◌then◌else◌, List, refl, subst, sym, ap, ◌∙◌, arith}
-use Rattle.std.proofs.Common.{Option, None, Some, Result, Ok, Err}
-use Rattle.std.proofs.lemmas.Bool.Decides.{nat_tests}
+use Rattle.std.proofs.Common.{◌≡◌, ℕ, ◌+◌, Bool, true, false, ◌&&◌, ◌||◌, if◌then◌else◌, List, refl, subst, sym, arith, Option, None, Some}
+use Rattle.std.proofs.{Common.{Result, Ok, Err}, lemmas.Bool.Decides.{nat_tests}}
 use Rattle.std.specs.Prelude.{nat_le, nat_lt}
-use Rattle.client_world.specs.declared.faults.Fault.{Fault}
-use Rattle.client_world.specs.declared.faults.TheConstants.{GENERAL_PROTECTION}
-use Rattle.client_world.specs.declared.memory_map.TheConstants.{SEGMENT_SIZE}
-use Rattle.client_world.specs.declared.registers.Mode.{Mode}
-use Rattle.client_world.specs.declared.registers.Mode.TheVariants.{Real, Protected}
-use Rattle.client_world.specs.declared.registers.Regs.{Regs}
-use Rattle.client_world.specs.declared.segments.SegReg.TheVariants.{Cs}
-use Rattle.client_world.specs.Access.{base_in_row, fault_with, segment_base}
-use Rattle.client_world.specs.Descriptor.{is_code, is_inside}
-use Rattle.client_world.specs.Loading.{code_row_fault, is_privileged, load_fault, transfer_fault}
-use Rattle.client_world.specs.Selector.{Row, is_null, row_of_selector}
+use Rattle.client_world.specs.{declared.faults.Fault.{Fault}, declared.faults.TheConstants.{GENERAL_PROTECTION}}
+use Rattle.client_world.specs.{declared.memory_map.TheConstants.{SEGMENT_SIZE}, declared.registers.Mode.{Mode}}
+use Rattle.client_world.specs.{declared.registers.Mode.TheVariants.{Real, Protected}, declared.registers.Regs.{Regs}}
+use Rattle.client_world.specs.{declared.segments.SegReg.TheVariants.{Cs}, Access.{base_in_row, fault_with, segment_base}}
+use Rattle.client_world.specs.{Loading.{code_row_fault, load_fault, transfer_fault}, Selector.{Row, is_null, row_of_selector}}
 use Rattle.client_world.specs.World.{World}
 
 abbrev IsBase : Result ℕ Fault → Type 0

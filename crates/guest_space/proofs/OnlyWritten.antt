@@ -1,29 +1,19 @@
 -- A write through a segment register changes the bytes of its places, and nothing else in the memory.
-use Rattle.std.proofs.Common.{◌≡◌, ℕ, suc, ◌+◌, Bool, true, List, [], ◌∷◌, slice_index_or, refl, ap, ◌∙◌, sym, subst, arith, None, Some}
-use Rattle.std.proofs.Common.{Result, Ok, Err}
+use Rattle.std.proofs.Common.{◌≡◌, ℕ, suc, Bool, true, List, [], ◌∷◌, slice_index_or, refl, ap, ◌∙◌, sym, subst, arith, None, Some, Result}
+use Rattle.std.proofs.Common.{Ok, Err}
 use Rattle.std.specs.declared.option.Option.{Option}
-use Rattle.client_world.specs.declared.faults.Fault.{Fault}
-use Rattle.client_world.specs.declared.place.Place.{Place}
-use Rattle.client_world.specs.declared.place.Place.TheVariants.{Dos, Block, Host, Nothing}
-use Rattle.client_world.specs.declared.registers.Mode.{Mode}
-use Rattle.client_world.specs.declared.registers.Regs.{Regs}
-use Rattle.client_world.specs.declared.registers.Width.{Width}
-use Rattle.client_world.specs.declared.segments.SegReg.{SegReg}
+use Rattle.client_world.specs.{declared.faults.Fault.{Fault}, declared.place.Place.{Place}, declared.place.Place.TheVariants.{Dos, Block}}
+use Rattle.client_world.specs.{declared.place.Place.TheVariants.{Host, Nothing}, declared.registers.Mode.{Mode}}
+use Rattle.client_world.specs.{declared.registers.Regs.{Regs}, declared.registers.Width.{Width}, declared.segments.SegReg.{SegReg}}
 use Rattle.client_world.specs.Access.{access, segment_base, places_at, places_from, first_forbidden, unless_forbidden, with_byte_of, IsHeld}
-use Rattle.client_world.specs.Soundness.{IsSound, SoundBlocks}
-use Rattle.client_world.specs.World.{World}
+use Rattle.client_world.specs.{Soundness.{IsSound, SoundBlocks}, World.{World}}
 use Rattle.client_world.proofs.SoundWrites.{SoundBlocks-written}
-use Rattle.host_memory.specs.Holds.{Holds}
-use Rattle.host_memory.specs.Layout.{world_of}
-use Rattle.host_memory.specs.View.{MachineView, OnlyAt}
-use Rattle.host_memory.proofs.ClientWrites.{write_world, write_holds, write_addresses, write_host}
-use Rattle.host_memory.proofs.OnlyAtLaws.{only_start, only_step, only_then}
-use Rattle.host_memory.proofs.WorldParts.{budget_is}
-use Rattle.guest_space.specs.Machines.{Processor, held_world}
-use Rattle.guest_space.specs.Transfer.{after_store, with_places, fault_of}
-use Rattle.guest_space.proofs.Runs.{all_touch, can_write_run}
-use Rattle.guest_space.proofs.Machines.{CanWrite, CanWriteAll, with_place, held_there, can_write_after, with_places_none, with_places_short}
-use Rattle.guest_space.proofs.Machines.{with_places_first}
+use Rattle.host_memory.specs.{Holds.{Holds}, Layout.{world_of}, View.{MachineView, OnlyAt}}
+use Rattle.host_memory.proofs.{ClientWrites.{write_world, write_holds, write_addresses, write_host}, OnlyAtLaws.{only_start, only_step}}
+use Rattle.host_memory.proofs.{OnlyAtLaws.{only_then}, WorldParts.{budget_is}}
+use Rattle.guest_space.specs.{Machines.{Processor, held_world}, Transfer.{after_store, with_places, fault_of}}
+use Rattle.guest_space.proofs.{Runs.{all_touch, can_write_run}, Machines.{CanWrite, CanWriteAll, with_place, held_there, can_write_after}}
+use Rattle.guest_space.proofs.Machines.{with_places_none, with_places_short, with_places_first}
 
 -- the bytes hold a world with sound blocks. Nothing is said of its bytes, so any numbers may be written
 pub record HoldsBlocks (k : Processor) (v : MachineView) : Type 0 where

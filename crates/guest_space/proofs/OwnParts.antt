@@ -1,16 +1,11 @@
 -- What the processor keeps itself is no part of the memory: another value of it changes that part of the world alone, and a sound world
 -- stays sound.
 use Rattle.std.proofs.Common.{◌≡◌, ◌≢◌, ℕ, ◌<◌, Bool, List, [], ◌∷◌, slice_set, refl, sym, subst, arith, Option, None, Some}
-use Rattle.client_world.specs.declared.registers.Mode.{Mode}
-use Rattle.client_world.specs.declared.registers.Mode.TheVariants.{Real, Protected}
-use Rattle.client_world.specs.declared.registers.Regs.{Regs}
-use Rattle.client_world.specs.declared.registers.Width.{Width}
-use Rattle.client_world.specs.declared.memory_map.TheConstants.{ROM_START}
-use Rattle.client_world.specs.Soundness.{IsSound, HasSegments}
-use Rattle.client_world.specs.World.{World}
-use Rattle.client_world.proofs.SoundWrites.{IsSound-regs, IsSound-vif, IsSound-real, IsSound-mode, IsSound-dos, SoundMegabyte-set}
-use Rattle.host_memory.specs.Layout.{world_of}
-use Rattle.host_memory.specs.Holds.{Holds}
+use Rattle.client_world.specs.{declared.registers.Mode.{Mode}, declared.registers.Mode.TheVariants.{Real, Protected}}
+use Rattle.client_world.specs.{declared.registers.Regs.{Regs}, declared.registers.Width.{Width}}
+use Rattle.client_world.specs.{declared.memory_map.TheConstants.{ROM_START}, Soundness.{IsSound, HasSegments}, World.{World}}
+use Rattle.client_world.proofs.SoundWrites.{IsSound-real, IsSound-mode, IsSound-dos, SoundMegabyte-set}
+use Rattle.host_memory.specs.{Layout.{world_of}, Holds.{Holds}}
 use Rattle.host_memory.proofs.ClientWrites.{dos_world}
 
 -- the registers

@@ -1,23 +1,14 @@
 -- A part of a run that a segment allows is allowed too, from the same linear address.
-use Rattle.std.proofs.Common.{◌≡◌, ℕ, ◌+◌, ◌*◌, ◌≤◌, ◌^◌, inl, inr, Bool, true, false, ◌&&◌, not, List, refl, ap, arith, None, Some, Result}
-use Rattle.std.proofs.Common.{Ok, Err}
+use Rattle.std.proofs.Common.{◌≡◌, ℕ, ◌+◌, ◌≤◌, ◌^◌, inl, inr, Bool, true, false, ◌&&◌, not, List, refl, arith, None, Some, Result, Ok, Err}
+use Rattle.std.proofs.{lemmas.Bool.{cases_Bool, not-false}, lemmas.Bool.Decides.{nat_tests}}
 use Rattle.std.specs.Prelude.{nat_lt, nat_le, if◌then◌else◌}
-use Rattle.std.proofs.lemmas.Bool.{cases_Bool}
-use Rattle.std.proofs.lemmas.Bool.Decides.{nat_tests}
-use Rattle.client_world.specs.declared.faults.Fault.{Fault}
-use Rattle.client_world.specs.declared.faults.TheConstants.{SEGMENT_NOT_PRESENT, GENERAL_PROTECTION}
-use Rattle.client_world.specs.declared.memory_map.TheConstants.{PARAGRAPH_SIZE, SEGMENT_SIZE}
-use Rattle.client_world.specs.declared.descriptors.Desc.{Desc}
-use Rattle.client_world.specs.declared.descriptors.Kind.{Kind}
-use Rattle.client_world.specs.declared.descriptors.Kind.TheVariants.{Data, Code}
-use Rattle.client_world.specs.declared.registers.Mode.{Mode}
-use Rattle.client_world.specs.declared.registers.Mode.TheVariants.{Real, Protected}
-use Rattle.client_world.specs.declared.registers.Regs.{Regs}
-use Rattle.client_world.specs.declared.segments.SegReg.{SegReg}
-use Rattle.client_world.specs.declared.segments.SegReg.TheVariants.{Cs}
-use Rattle.client_world.specs.Access.{fault_with, stack_or, suits_register, base_in_row, protected_base, real_base, segment_base}
-use Rattle.client_world.specs.Descriptor.{is_inside, expands_down, is_code, is_writable, byte_limit, greatest_offset}
-use Rattle.client_world.specs.Segments.{selector}
+use Rattle.client_world.specs.{declared.faults.Fault.{Fault}, declared.faults.TheConstants.{SEGMENT_NOT_PRESENT, GENERAL_PROTECTION}}
+use Rattle.client_world.specs.{declared.descriptors.Desc.{Desc}, declared.descriptors.Kind.{Kind}}
+use Rattle.client_world.specs.{declared.descriptors.Kind.TheVariants.{Data, Code}, declared.registers.Mode.{Mode}}
+use Rattle.client_world.specs.{declared.registers.Mode.TheVariants.{Real, Protected}, declared.registers.Regs.{Regs}}
+use Rattle.client_world.specs.{declared.segments.SegReg.{SegReg}, declared.segments.SegReg.TheVariants.{Cs}, Access.{fault_with, stack_or}}
+use Rattle.client_world.specs.{Access.{suits_register, base_in_row, protected_base, real_base, segment_base}, Descriptor.{is_inside}}
+use Rattle.client_world.specs.{Descriptor.{expands_down, is_code, is_writable, byte_limit, greatest_offset}, Segments.{selector}}
 use Rattle.client_world.specs.Selector.{Row, is_null, row_of_selector, selector_code}
 
 -- limits
@@ -39,7 +30,7 @@ inside_part d offset n k m h e = elim (cases_Bool (expands_down d.kind)) [
 ]
 
 -- tests that are passed one after the other
-passed : (c : Bool) (f : Fault) (r : Result ℕ Fault) (base : ℕ) → (if c then Err f else r) ≡ Ok base → (c ≡ false) × (r ≡ Ok base)
+pub passed : (c : Bool) (f : Fault) (r : Result ℕ Fault) (base : ℕ) → (if c then Err f else r) ≡ Ok base → (c ≡ false) × (r ≡ Ok base)
 passed true f r base e = absurd cc
 passed false f r base e = (refl, e)
 
@@ -54,10 +45,6 @@ allowed : (c : Bool) (f : Fault) (a base : ℕ) → (if c then Ok a else Err f) 
 allowed true f a base e = (refl, e)
 allowed false f a base e = absurd cc
 
-not_false : (c : Bool) → not c ≡ false → c ≡ true
-not_false true e = refl
-not_false false e = absurd cc
-
 true_not : (c : Bool) → c ≡ true → not c ≡ false
 true_not true e = refl
 true_not false e = absurd cc
@@ -70,7 +57,7 @@ row_part seg sel (Some row) offset n k m write base h e =
     let present = passed (not row.0.present) (fault_with (stack_or seg SEGMENT_NOT_PRESENT) (selector_code sel)) _ base suits.1 in
     let writable = passed (write && not (is_writable row.0.kind)) (fault_with GENERAL_PROTECTION 0) _ base present.1 in
     let inside = passed (not (is_inside row.0 offset n)) (fault_with (stack_or seg GENERAL_PROTECTION) 0) _ base writable.1 in
-    let part = inside_part row.0 offset n k m h (not_false (is_inside row.0 offset n) inside.0) in
+    let part = inside_part row.0 offset n k m h (not-false (is_inside row.0 offset n) inside.0) in
     pass (not (suits_register seg row.0.kind)) (fault_with (stack_or seg GENERAL_PROTECTION) (selector_code sel)) _ base suits.0
     (pass (not row.0.present) (fault_with (stack_or seg SEGMENT_NOT_PRESENT) (selector_code sel)) _ base present.0
     (pass (write && not (is_writable row.0.kind)) (fault_with GENERAL_PROTECTION 0) _ base writable.0

@@ -1,23 +1,17 @@
 -- Bytes that are put where a translation ends are bytes at the places of the run, and leave a machine a machine.
 use Rattle.std.proofs.Common.{◌≡◌, ℕ, suc, ◌+◌, ◌%◌, ◌<◌, ◌≤◌, ◌^◌, Ok, true, List, [], ◌∷◌, length, drop, slice_index, slice_index_or}
-use Rattle.std.proofs.Common.{slice_set, refl, ap, ◌∙◌, sym, arith, add-zero}
-use Rattle.client_world.specs.declared.place.Place.{Place}
-use Rattle.client_world.specs.declared.place.Place.TheVariants.{Nothing}
-use Rattle.client_world.specs.declared.host_frames.TheConstants.{PAGE_SIZE}
-use Rattle.client_world.specs.Access.{place_in, may_touch, with_byte_of, places_from}
+use Rattle.std.proofs.{Common.{slice_set, refl, ap, ◌∙◌, sym, arith, add-zero}, Math.Seq.{drop-cons}, lemmas.List.{drop_all}}
+use Rattle.client_world.specs.{declared.place.Place.{Place}, declared.place.Place.TheVariants.{Nothing}}
+use Rattle.client_world.specs.{declared.host_frames.TheConstants.{PAGE_SIZE}, Access.{place_in, may_touch, with_byte_of, places_from}}
 use Rattle.client_world.specs.World.{World}
 use Rattle.client_world.proofs.PlaceLaws.{length-places_from, places_from-at, place_in-with_byte_of}
-use Rattle.std.proofs.Math.Seq.{drop-cons}
-use Rattle.std.proofs.lemmas.List.{drop_all}
 use Rattle.guest_ram.specs.Bytes.{put}
-use Rattle.host_memory.specs.Layout.{address_of}
-use Rattle.host_memory.specs.View.{MachineView}
+use Rattle.host_memory.specs.{Layout.{address_of}, View.{MachineView}}
 use Rattle.host_memory.proofs.WalkAnswers.{TouchesAt}
-use Rattle.guest_space.specs.Machines.{Processor, held_world, IsMachine}
-use Rattle.guest_space.specs.Transfer.{translated, with_bytes_at, with_places}
+use Rattle.guest_space.specs.{Machines.{Processor, held_world, IsMachine}, Transfer.{translated, with_bytes_at, with_places}}
 use Rattle.guest_space.proofs.Machines.{CanWrite, CanWriteAll, AllBytes, with_place, written_machine, written_machines, written_addresses}
-use Rattle.guest_space.proofs.Machines.{can_write_after, with_places_none, with_places_first, with_places_bytes}
-use Rattle.guest_space.proofs.Runs.{run_touches, run_all, can_write_run}
+use Rattle.guest_space.proofs.{Machines.{can_write_after, with_places_none, with_places_first, with_places_bytes}, Runs.{run_touches}}
+use Rattle.guest_space.proofs.Runs.{run_all, can_write_run}
 
 -- one byte
 pub can_write_there : (w : World) (lin : ℕ) → may_touch (place_in w.blocks lin) true ≡ true → CanWrite w (place_in w.blocks lin)

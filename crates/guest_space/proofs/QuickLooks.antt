@@ -1,10 +1,7 @@
 -- Reads and writes that a quick look decides.
 use Rattle.std.proofs.Common.{◌≡◌, ℕ, ◌+◌, false, List, None, Some, Ok, ◌∙◌, sym}
-use Rattle.std.specs.Prelude.{IfSome}
-use Rattle.std.specs.declared.option.Option.{Option}
-use Rattle.client_world.specs.declared.segments.SegReg.{SegReg}
-use Rattle.client_world.specs.Access.{linear, segment_base}
-use Rattle.client_world.specs.World.{World}
+use Rattle.std.specs.{Prelude.{IfSome}, declared.option.Option.{Option}}
+use Rattle.client_world.specs.{declared.segments.SegReg.{SegReg}, Access.{linear, segment_base}, World.{World}}
 use Rattle.guest_space.specs.Transfer.{bytes_at, linear_access, read_result}
 use Rattle.guest_space.proofs.Accesses.{loaded_linear}
 

@@ -1,13 +1,10 @@
 -- What was written at a pointer is read there again.
 use Rattle.std.proofs.Common.{◌≡◌, ◌≢◌, ℕ, zero, suc, ◌<◌, true, List, [], ◌∷◌, length, slice_index, slice_index_or, slice_set, refl, ap}
-use Rattle.std.proofs.Common.{◌∙◌, sym, arith, None, Some, Option, get_or-set_same, get_or-set_other, length-set}
-use Rattle.std.proofs.lemmas.Bool.{ltb-true}
-use Rattle.client_world.specs.declared.place.Place.{Place}
-use Rattle.client_world.specs.declared.place.Place.TheVariants.{Dos, Block, Host, Nothing}
-use Rattle.client_world.specs.declared.memory_map.TheConstants.{ROM_START, DOS_SIZE}
-use Rattle.client_world.specs.Access.{may_touch, byte_of, bytes_of, bytes_of_block, with_block_byte, with_byte_of, with_bytes_of, HasByte}
-use Rattle.client_world.specs.Access.{IsHeld}
-use Rattle.client_world.specs.World.{World, MemoryBlock}
+use Rattle.std.proofs.{Common.{◌∙◌, sym, arith, None, Some, Option, get_or-set_same, get_or-set_other, length-set}, lemmas.Bool.{ltb-true}}
+use Rattle.client_world.specs.{declared.place.Place.{Place}, declared.place.Place.TheVariants.{Dos, Block, Host, Nothing}}
+use Rattle.client_world.specs.{declared.memory_map.TheConstants.{ROM_START, DOS_SIZE}, Access.{may_touch, byte_of, bytes_of}}
+use Rattle.client_world.specs.{Access.{bytes_of_block, with_block_byte, with_byte_of, with_bytes_of, HasByte, IsHeld}, World.{World}}
+use Rattle.client_world.specs.World.{MemoryBlock}
 use Rattle.guest_space.proofs.Machines.{CanWrite, CanWriteAll, held_there, can_write_after}
 
 -- a byte that is held and written is the byte there

@@ -1,56 +1,25 @@
 -- Reads of parts of a run of bytes in one page.
-use Rattle.std.proofs.Common.{◌≡◌, ℕ, ◌+◌, ◌<◌, ◌≤◌, Bool, true, false, not, ◌&&◌, List, refl, ap, ◌∙◌, sym, arith, Ok, Err, None, Some}
-use Rattle.std.specs.Prelude.{if◌then◌else◌}
-use Rattle.client_world.specs.declared.faults.Fault.{Fault}
-use Rattle.client_world.specs.declared.place.Place.{Place}
-use Rattle.client_world.specs.declared.place.Place.TheVariants.{Dos, Block, Host, Nothing}
-use Rattle.client_world.specs.declared.registers.Mode.{Mode}
-use Rattle.client_world.specs.declared.registers.Mode.TheVariants.{Real, Protected}
-use Rattle.client_world.specs.declared.registers.Regs.{Regs}
-use Rattle.client_world.specs.declared.segments.SegReg.{SegReg}
-use Rattle.client_world.specs.Access.{place_in, may_touch, linear, segment_base, base_in_row, suits_register}
-use Rattle.client_world.specs.Descriptor.{is_writable, is_inside}
-use Rattle.client_world.specs.Segments.{selector}
-use Rattle.client_world.specs.Selector.{Row, is_null, row_of_selector}
+use Rattle.std.proofs.Common.{◌≡◌, ℕ, ◌+◌, ◌<◌, ◌≤◌, true, false, List, refl, ap, ◌∙◌, sym, arith, Ok}
+use Rattle.client_world.specs.{declared.place.Place.{Place}, declared.place.Place.TheVariants.{Dos, Block, Host, Nothing}}
+use Rattle.client_world.specs.{declared.registers.Mode.{Mode}, declared.registers.Mode.TheVariants.{Real, Protected}}
+use Rattle.client_world.specs.{declared.registers.Regs.{Regs}, declared.segments.SegReg.{SegReg}, Access.{place_in, may_touch, linear}}
+use Rattle.client_world.specs.{Access.{segment_base}, Segments.{selector}, Selector.{Row}}
 use Rattle.guest_ram.specs.Bytes.{region}
 use Rattle.host_memory.specs.View.{MachineView}
 use Rattle.host_memory.proofs.WalkAnswers.{TouchesAt}
-use Rattle.guest_space.specs.Machines.{Processor, IsMachine}
-use Rattle.guest_space.specs.Transfer.{read_result, translated}
-use Rattle.guest_space.specs.WriteRuns.{IsRun}
-use Rattle.guest_space.proofs.Accesses.{loaded_linear}
-use Rattle.guest_space.proofs.Runs.{run_touches, run_loaded}
-use Rattle.guest_space.proofs.WriteRuns.{translated_where, part_of_run}
+use Rattle.guest_space.specs.{Machines.{Processor, IsMachine}, Transfer.{read_result, translated}, WriteRuns.{IsRun}}
+use Rattle.guest_space.proofs.{Accesses.{loaded_linear}, Runs.{run_touches, run_loaded}, WriteRuns.{translated_where, part_of_run}}
+use Rattle.guest_space.proofs.Parts.{protected_read}
 
 -- what may be written may be read
-read_chain : (a b c d : Bool) (f g h i : Fault) (x base : ℕ) →
-    (if not a then Err f else if not b then Err g else if true && not c then Err h else if not d then Err i else Ok x) ≡ Ok base →
-    (if not a then Err f else if not b then Err g else if false && not c then Err h else if not d then Err i else Ok x) ≡ Ok base
-read_chain true true true true f g h i x base e = e
-read_chain true true true false f g h i x base e = absurd cc
-read_chain true true false d f g h i x base e = absurd cc
-read_chain true false c d f g h i x base e = absurd cc
-read_chain false b c d f g h i x base e = absurd cc
-
-row_for_read : (seg : SegReg) (sel : ℕ) (row : Row) (offset n base : ℕ) → base_in_row seg sel row offset n true ≡ Ok base →
-    base_in_row seg sel row offset n false ≡ Ok base
-row_for_read seg sel None offset n base e = absurd cc
-row_for_read seg sel (Some row) offset n base e = grind (arith, read_chain)
-
-selector_for_read : (null : Bool) (f : Fault) (seg : SegReg) (sel : ℕ) (row : Row) (offset n base : ℕ) →
-    (if null then Err f else base_in_row seg sel row offset n true) ≡ Ok base →
-    (if null then Err f else base_in_row seg sel row offset n false) ≡ Ok base
-selector_for_read true f seg sel row offset n base e = absurd cc
-selector_for_read false f seg sel row offset n base e = row_for_read seg sel row offset n base e
-
 base_for_read : (mode : Mode) (r : Regs) (rows : List Row) (seg : SegReg) (offset n base : ℕ) →
     segment_base mode r rows seg offset n true ≡ Ok base →
     segment_base mode r rows seg offset n false ≡ Ok base
 unfolding segment_base
 base_for_read Real r rows seg offset n base e = e
-base_for_read Protected r rows seg offset n base e = grind (arith, selector_for_read)
+base_for_read Protected r rows seg offset n base e = protected_read rows seg (selector r seg) offset n base e
 
-place_for_read : (p : Place) → may_touch p true ≡ true → may_touch p false ≡ true
+pub place_for_read : (p : Place) → may_touch p true ≡ true → may_touch p false ≡ true
 place_for_read (Dos at) e = refl
 place_for_read (Block number at) e = refl
 place_for_read Host e = absurd cc

@@ -1,20 +1,14 @@
 -- A frame that holds some records: what is read from it, and the frame with one record more or one less.
-use Rattle.std.proofs.Common.{◌≡◌, ◌≢◌, ℕ, zero, suc, ◌+◌, ◌-◌, ◌*◌, ◌<◌, ◌≤◌, ◌⊎◌, inl, inr, List, [], ◌∷◌, ◌++◌, length, get_or, take}
-use Rattle.std.proofs.Common.{refl, ap, ◌∙◌, sym, arith, add-zero, zero-add, length-append}
-use Rattle.std.proofs.lemmas.Bool.{cases_lt, eq-eqb, ne_eqb}
+use Rattle.std.proofs.Common.{◌≡◌, ◌≢◌, ℕ, zero, suc, ◌+◌, ◌-◌, ◌*◌, ◌<◌, ◌≤◌, ◌⊎◌, inl, inr, List, [], ◌∷◌, ◌++◌, length, get_or, take, ap}
+use Rattle.std.proofs.{Common.{◌∙◌, sym, arith, add-zero, zero-add, length-append}, lemmas.Bool.{cases_lt, eq-eqb, ne_eqb}}
 use Rattle.std.proofs.lemmas.List.{length-take-le, get_or_append_left, get_or_at, get_or-take}
-use Rattle.client_world.specs.declared.calls.Call.{Call}
-use Rattle.client_world.specs.declared.calls.Call.TheVariants.{Int, Far, Iret, Reflect}
-use Rattle.client_world.specs.declared.calls.Record.{Record}
-use Rattle.client_world.specs.declared.calls.Record.TheVariants.{Sim, Back, Exc}
-use Rattle.client_world.specs.declared.host_frames.TheConstants.{PAGE_SIZE, RECORD_FRAMES}
-use Rattle.client_world.specs.declared.limits.TheConstants.{GREATEST_DEPTH}
-use Rattle.guest_ram.specs.Bytes.{put}
-use Rattle.guest_ram.specs.Listed.{zeros}
-use Rattle.guest_ram.proofs.ListedLaws.{length-listed, at_listed, is_listed, length-zeros, at_zeros}
-use Rattle.guest_ram.proofs.PutLaws.{put_below, put_above, put_within}
+use Rattle.client_world.specs.{declared.calls.Call.{Call}, declared.calls.Call.TheVariants.{Int, Far, Iret, Reflect}}
+use Rattle.client_world.specs.{declared.calls.Record.{Record}, declared.calls.Record.TheVariants.{Sim, Back, Exc}}
+use Rattle.client_world.specs.{declared.host_frames.TheConstants.{PAGE_SIZE, RECORD_FRAMES}, declared.limits.TheConstants.{GREATEST_DEPTH}}
+use Rattle.guest_ram.specs.{Bytes.{put}, Listed.{zeros}}
+use Rattle.guest_ram.proofs.{ListedLaws.{at_listed, is_listed, length-zeros, at_zeros}, PutLaws.{put_below, put_above, put_within}}
 use Rattle.host_memory.specs.Records.{record_at, record_bytes, record_size, record_count, records_from, calls_in, call_kind, KeepsRecords}
-use Rattle.host_memory.proofs.ListsClaim.{records_few}
+use Rattle.host_memory.proofs.ListsClaim.{records_few, length-calls_in}
 use Rattle.guest_space.proofs.RecordRuns.{same_record}
 
 -- the frame holds exactly these records
@@ -79,10 +73,6 @@ keeps_of_part part rs h =
           ∙ ap (λ (x : Record). get_or (record_bytes x) at 0) (sym (h.read place d (omega arith))));
       rest = λ at from to. h.rest at (omega arith) to;
     }
-
-length-calls_in : (part : List ℕ) → length (calls_in part) ≡ record_count part
-unfolding calls_in
-length-calls_in part = length-listed (record_count part) (λ place. record_at part (record_size * place))
 
 at_calls_in : (part : List ℕ) (place : ℕ) (d : Record) → place < record_count part →
     get_or (calls_in part) place d ≡ record_at part (record_size * place)

@@ -1,50 +1,39 @@
 -- The memory with one record more or one less: the world that it holds, which is sound.
-use Rattle.std.proofs.Common.{◌≡◌, ◌≢◌, ℕ, ◌+◌, ◌-◌, ◌*◌, ◌<◌, ◌≤◌, ◌⊎◌, inl, inr, Bool, List, [], ◌∷◌, ◌++◌, length, get_or, take, refl}
-use Rattle.std.proofs.Common.{ap, ◌∙◌, sym, subst, arith, add-zero, zero-add, add_assoc, Option, Some, None}
-use Rattle.std.specs.List.{slice_get}
-use Rattle.std.proofs.lemmas.Bool.{cases_lt}
+use Rattle.std.proofs.Common.{◌≡◌, ◌≢◌, ℕ, ◌+◌, ◌-◌, ◌*◌, ◌<◌, ◌≤◌, ◌⊎◌, Bool, List, [], ◌∷◌, ◌++◌, length, get_or, take, refl, ap, ◌∙◌}
+use Rattle.std.proofs.{Common.{sym, subst, arith, add-zero, zero-add, add_assoc, Option, Some, None}, lemmas.Bool.{cases_lt}}
 use Rattle.std.proofs.lemmas.Option.{slice_get-get_or}
-use Rattle.client_world.specs.declared.calls.Record.{Record}
-use Rattle.client_world.specs.declared.host_frames.TheConstants.{PAGE_SIZE, RECORDS, RECORD_FRAMES}
-use Rattle.client_world.specs.declared.limits.TheConstants.{GREATEST_DEPTH}
-use Rattle.client_world.specs.declared.place.Place.{Place}
-use Rattle.client_world.specs.declared.registers.Mode.{Mode}
-use Rattle.client_world.specs.declared.registers.Regs.{Regs}
-use Rattle.client_world.specs.declared.registers.Width.{Width}
-use Rattle.client_world.specs.Soundness.{IsSound, SoundWidth}
+use Rattle.std.specs.List.{slice_get}
+use Rattle.client_world.specs.{declared.calls.Record.{Record}, declared.host_frames.TheConstants.{PAGE_SIZE, RECORDS, RECORD_FRAMES}}
+use Rattle.client_world.specs.{declared.limits.TheConstants.{GREATEST_DEPTH}, declared.place.Place.{Place}, declared.registers.Mode.{Mode}}
+use Rattle.client_world.specs.{declared.registers.Regs.{Regs}, declared.registers.Width.{Width}, Soundness.{IsSound, SoundWidth}}
 use Rattle.client_world.specs.World.{World}
-use Rattle.guest_ram.specs.Bytes.{put, region}
-use Rattle.guest_ram.specs.Listed.{zeros, copies}
-use Rattle.guest_ram.proofs.ListedLaws.{length-zeros}
-use Rattle.guest_ram.proofs.PutLaws.{length-put, length-region, at_region, put_away}
-use Rattle.host_memory.specs.Holds.{Holds}
-use Rattle.host_memory.specs.Layout.{address_of, records_part, world_of}
-use Rattle.host_memory.specs.Records.{record_at, record_bytes, record_count, record_size, calls_in}
-use Rattle.host_memory.specs.View.{MachineView, OnlyAt}
-use Rattle.host_memory.proofs.Parts.{MemoryParts, parts_of, HasSize, addresses_by, world_by, holds_by, holds_parts, holds_with_records}
-use Rattle.host_memory.proofs.PutParts.{put_records, size_put}
-use Rattle.host_memory.proofs.WorldParts.{calls_is}
-use Rattle.guest_space.specs.declared.machine.Machine.TheInside.{Inside}
-use Rattle.guest_space.specs.Machines.{Processor, held_world}
-use Rattle.guest_space.specs.Records.{record_place, with_record, without_record, IsInRow, OnlyAtAndRow}
-use Rattle.guest_space.proofs.CacheLaws.{put_beside, record_beside}
-use Rattle.guest_space.proofs.Insides.{processor_of, view_of, IsWhole, after_call}
+use Rattle.guest_ram.specs.{Bytes.{put, region}, Listed.{zeros, copies}}
+use Rattle.guest_ram.proofs.{ListedLaws.{length-zeros}, PutLaws.{length-put, length-region, at_region, put_away}}
+use Rattle.host_memory.specs.{Holds.{Holds}, Layout.{address_of, records_part, world_of}, Records.{record_at, record_bytes, record_count}}
+use Rattle.host_memory.specs.{Records.{record_size, calls_in}, View.{MachineView, OnlyAt}}
+use Rattle.host_memory.proofs.Parts.{HasParts, HasSize, addresses_of, holds_by, holds_parts, holds_with_records, parts_of, world_by}
+use Rattle.host_memory.proofs.{PutParts.{Records, put_part}, WorldParts.{calls_is}}
+use Rattle.guest_space.specs.{declared.machine.Machine.TheInside.{Inside}, Machines.{Processor, held_world}, Records.{record_place}}
+use Rattle.guest_space.specs.Records.{with_record, without_record, IsInRow, OnlyAtAndRow}
+use Rattle.guest_space.proofs.{CacheLaws.{put_beside, record_beside}, Insides.{processor_of, view_of, IsWhole, after_call}}
 use Rattle.guest_space.proofs.RecordLists.{IsRecordPart, kind_some, count_of_part, part_of_keeps, calls_of_part, keeps_of_part, one_more}
-use Rattle.guest_space.proofs.RecordLists.{one_less, counted}
-use Rattle.guest_space.proofs.RecordRuns.{same_record}
-use Rattle.guest_space.proofs.SoundLists.{IsSound-calls}
+use Rattle.guest_space.proofs.{RecordLists.{one_less, counted}, RecordRuns.{same_record}, SoundLists.{IsSound-calls}}
 
 length-records_part : (b : List ℕ) (budget : ℕ) → HasSize b budget → length (records_part b) ≡ PAGE_SIZE * RECORD_FRAMES
 length-records_part b budget size = length-region b (PAGE_SIZE * RECORDS) (PAGE_SIZE * RECORD_FRAMES) (omega (arith, size))
+
+row_has : (b : List ℕ) (budget place : ℕ) (xs : List ℕ) → HasSize b budget → place < GREATEST_DEPTH → length xs ≡ record_size →
+    HasParts (put b (record_place place) xs) budget (record (parts_of b budget) { records = put (records_part b) (record_size * place) xs })
+row_has b budget place xs size small long =
+    put_part Records b budget _ (record_place place) (record_size * place) xs (record { size = size; are = refl }) (omega arith)
+    (omega arith)
 
 -- the row of a record written, where the frame then holds these records
 pub row_holds : (b : List ℕ) (budget : ℕ) → Holds b budget → (place : ℕ) (xs : List ℕ) (rs : List Record) → place < GREATEST_DEPTH →
     length xs ≡ record_size →
     IsRecordPart (put (records_part b) (record_size * place) xs) rs → Holds (put b (record_place place) xs) budget
 row_holds b budget holds place xs rs small long part =
-    holds_by (put b (record_place place) xs) budget (record (parts_of b budget) { records = put (records_part b) (record_size * place) xs })
-    (put_records b budget (record_place place) (record_size * place) xs holds.size refl (omega arith))
-    (size_put b budget (record_place place) xs holds.size) holds.most
+    holds_by (put b (record_place place) xs) budget _ (row_has b budget place xs holds.size small long) holds.most
     (holds_with_records (parts_of b budget) budget (put (records_part b) (record_size * place) xs)
     (keeps_of_part (put (records_part b) (record_size * place) xs) rs part) (holds_parts b budget holds))
 
@@ -53,7 +42,7 @@ pub row_world : (b : List ℕ) (budget : ℕ) → Holds b budget → (place : �
     IsRecordPart (put (records_part b) (record_size * place) xs) rs → (mode : Mode) (regs : Regs) (vif : Bool) (width : Option Width) →
     world_of (put b (record_place place) xs) budget mode regs vif width ≡ record (world_of b budget mode regs vif width) { calls = rs }
 unfolding world_of
-row_world b budget holds place xs rs small long part mode regs vif width = grind (arith, calls_of_part, parts_of, put_records, world_by)
+row_world b budget holds place xs rs small long part mode regs vif width = grind (arith, calls_of_part, parts_of, row_has, world_by)
 
 -- where there is a record there is a width
 none_before : (width : Option Width) (w : World) → 0 < length w.calls → SoundWidth width w → width ≢ None
@@ -188,8 +177,7 @@ row_addresses : (b : List ℕ) (budget row : ℕ) (xs : List ℕ) → HasSize b 
     (place : Place) →
     address_of (put b (record_place row) xs) place ≡ address_of b place
 row_addresses b budget row xs size small long =
-    let parts = put_records b budget (record_place row) (record_size * row) xs size refl (omega arith) in
-    addresses_by b (put b (record_place row) xs) (ap (λ (x : MemoryParts). x.handles) parts) (ap (λ (x : MemoryParts). x.tables) parts)
+    addresses_of b (put b (record_place row) xs) budget _ (row_has b budget row xs size small long) refl refl
 
 pub only_row : (places : List Place) (b c : List ℕ) (budget row : ℕ) (xs : List ℕ) → OnlyAt places b c → HasSize b budget →
     row < GREATEST_DEPTH →

@@ -1,16 +1,10 @@
 -- What the calls on descriptors answer, from what the table's rows say: a row that leaves the world sound fits, and a free run of the
 -- memory's rows is one of the world's.
 use Rattle.std.proofs.Common.{◌≡◌, ℕ, ◌<◌, ◌≤◌, ◌⊎◌, inl, inr, Bool, List, slice_set, subst, arith, sym, Option, None, Some, IfSome}
-use Rattle.std.proofs.Common.{get_or-set_same, length-set}
-use Rattle.std.proofs.lemmas.List.{get_or_past}
-use Rattle.client_world.specs.declared.host_frames.TheConstants.{DESCRIPTORS, FIRST_FREE_DESCRIPTOR}
-use Rattle.client_world.specs.declared.registers.Mode.{Mode}
-use Rattle.client_world.specs.declared.registers.Regs.{Regs}
-use Rattle.client_world.specs.declared.registers.Width.{Width}
-use Rattle.client_world.specs.FreeRuns.{IsFreeRunOf, IsFirstFreeRunOf}
-use Rattle.client_world.specs.Selector.{Row, FitsRow, row_at_index}
-use Rattle.client_world.specs.Soundness.{IsSound, SoundDescriptors}
-use Rattle.client_world.specs.World.{World}
+use Rattle.std.proofs.{Common.{get_or-set_same, length-set}, lemmas.List.{get_or_past}}
+use Rattle.client_world.specs.{declared.host_frames.TheConstants.{DESCRIPTORS, FIRST_FREE_DESCRIPTOR}, declared.registers.Mode.{Mode}}
+use Rattle.client_world.specs.{declared.registers.Regs.{Regs}, declared.registers.Width.{Width}, FreeRuns.{IsFreeRunOf, IsFirstFreeRunOf}}
+use Rattle.client_world.specs.{Selector.{Row, FitsRow, row_at_index}, Soundness.{IsSound, SoundDescriptors}, World.{World}}
 use Rattle.desc_table.specs.Rows.{IsFreeRun, IsFirstFreeRun}
 use Rattle.host_memory.specs.Layout.{world_of}
 use Rattle.host_memory.proofs.RowWrites.{first_run_in_world, no_run_in_world, no_run_in_memory}

@@ -1,32 +1,22 @@
 -- An access to a run of bytes, by the walks of its bytes: where it ends, and which fault it has.
 use Rattle.std.proofs.Common.{◌≡◌, ℕ, zero, suc, ◌+◌, ◌-◌, ◌%◌, ◌<◌, ◌≤◌, ◌^◌, inl, inr, Bool, true, false, List, [], ◌∷◌, length}
 use Rattle.std.proofs.Common.{slice_index, slice_index_or, refl, ap, ◌∙◌, sym, arith, Option, None, Some, Ok, Err}
-use Rattle.std.proofs.lemmas.Bool.{cases_Bool, cases_lt}
-use Rattle.std.specs.Prelude.{nat_le}
-use Rattle.std.proofs.lemmas.Bool.Decides.{nat_tests}
-use Rattle.std.proofs.lemmas.Grind.{same_number_lists}
+use Rattle.std.proofs.{lemmas.Bool.{cases_Bool, cases_lt}, lemmas.Bool.Decides.{nat_tests}, lemmas.Grind.{same_number_lists}}
 use Rattle.std.proofs.lemmas.List.{same_lists}
-use Rattle.client_world.specs.declared.faults.Fault.{Fault}
-use Rattle.client_world.specs.declared.faults.PageFault.{PageFault}
-use Rattle.client_world.specs.declared.place.Place.{Place}
-use Rattle.client_world.specs.declared.place.Place.TheVariants.{Nothing}
-use Rattle.client_world.specs.declared.host_frames.TheConstants.{PAGE_SIZE, PAGE_DIRECTORY}
+use Rattle.std.specs.Prelude.{nat_le}
+use Rattle.client_world.specs.{declared.faults.Fault.{Fault}, declared.faults.PageFault.{PageFault}, declared.place.Place.{Place}}
+use Rattle.client_world.specs.{declared.place.Place.TheVariants.{Nothing}, declared.host_frames.TheConstants.{PAGE_SIZE, PAGE_DIRECTORY}}
 use Rattle.client_world.specs.Access.{place_in, place_of, may_touch, is_present, page_fault, byte_of, bytes_of, linear, places_from}
-use Rattle.client_world.specs.Access.{first_forbidden}
-use Rattle.client_world.specs.World.{World, MemoryBlock}
+use Rattle.client_world.specs.{Access.{first_forbidden}, World.{World, MemoryBlock}}
 use Rattle.client_world.proofs.PlaceLaws.{length-places_from, places_from-at, first_forbidden-none, first_forbidden-none_where_allowed}
 use Rattle.client_world.proofs.SoundWrites.{length-bytes_of, at_bytes_of}
 use Rattle.page_tables.specs.Walk.{walked}
 use Rattle.page_tables.proofs.PageRuns.{same_run, run_linear}
 use Rattle.guest_ram.specs.Bytes.{region}
 use Rattle.guest_ram.proofs.PutLaws.{length-region, at_region}
-use Rattle.host_memory.specs.Law.{walk_result}
-use Rattle.host_memory.specs.Layout.{address_of}
-use Rattle.host_memory.specs.View.{MachineView}
-use Rattle.host_memory.proofs.WalkAnswers.{TouchesAt, told_ends, told_fails, told_may}
-use Rattle.host_memory.proofs.WalkLaw.{walk_agrees}
-use Rattle.guest_space.specs.Transfer.{translated, linear_access, bytes_at, fault_of}
-use Rattle.guest_space.specs.Machines.{Processor, IsMachine}
+use Rattle.host_memory.specs.{Law.{walk_result}, View.{MachineView}}
+use Rattle.host_memory.proofs.{WalkAnswers.{TouchesAt, told_ends, told_fails, told_may}, WalkLaw.{walk_agrees}}
+use Rattle.guest_space.specs.{Transfer.{translated, linear_access, bytes_at, fault_of}, Machines.{Processor, IsMachine}}
 use Rattle.guest_space.proofs.Machines.{sound_blocks, stands_there, CanWriteAll}
 
 -- a walk ends where the place says

@@ -1,12 +1,9 @@
 -- A sound world with other vectors, other callbacks, other pageable pages or other records: of these lists the lengths alone count, and
 -- before the entry there are no callbacks and no records.
-use Rattle.std.proofs.Common.{◌≡◌, ◌≢◌, ◌≤◌, Bool, List, length, refl, ap, ◌∙◌, Option, None, Some, slice_index_or, arith}
-use Rattle.client_world.specs.declared.calls.Record.{Record}
-use Rattle.client_world.specs.declared.limits.TheConstants.{CALLBACKS, EXCEPTION_VECTORS, GREATEST_DEPTH, INTERRUPT_VECTORS}
-use Rattle.client_world.specs.declared.memory_map.TheConstants.{DOS_VIEW_PAGES}
-use Rattle.client_world.specs.declared.registers.Width.{Width}
-use Rattle.client_world.specs.declared.segments.FarPtr.{FarPtr}
-use Rattle.client_world.specs.Soundness.{IsSound, SoundWidth}
+use Rattle.std.proofs.Common.{◌≡◌, ◌≢◌, ◌≤◌, Bool, List, length, Option, None, Some, arith}
+use Rattle.client_world.specs.{declared.calls.Record.{Record}, declared.limits.TheConstants.{CALLBACKS, EXCEPTION_VECTORS, GREATEST_DEPTH}}
+use Rattle.client_world.specs.{declared.limits.TheConstants.{INTERRUPT_VECTORS}, declared.memory_map.TheConstants.{DOS_VIEW_PAGES}}
+use Rattle.client_world.specs.{declared.registers.Width.{Width}, declared.segments.FarPtr.{FarPtr}, Soundness.{IsSound, SoundWidth}}
 use Rattle.client_world.specs.World.{World, Callback}
 
 abbrev with_lists : World → List FarPtr → List FarPtr → List (Option Callback) → List Bool → List Record → World

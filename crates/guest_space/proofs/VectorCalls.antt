@@ -3,27 +3,19 @@ use Rattle.std.proofs.Common.{◌≡◌, ◌≢◌, ℕ, ◌+◌, ◌*◌, ◌<�
 use Rattle.std.proofs.Common.{subst, arith, nat_eq, Option, None}
 use Rattle.client_world.specs.declared.host_frames.TheConstants.{PAGE_SIZE, CALLBACK_SIZE, VECTORS, VECTOR_FRAMES, VECTOR_SIZE}
 use Rattle.client_world.specs.declared.limits.TheConstants.{CALLBACKS, INTERRUPT_VECTORS, EXCEPTION_VECTORS}
-use Rattle.client_world.specs.declared.memory_map.TheConstants.{DOS_VIEW_PAGES}
-use Rattle.client_world.specs.declared.segments.FarPtr.{FarPtr}
-use Rattle.client_world.specs.Segments.{null_pointer}
-use Rattle.client_world.specs.Soundness.{IsSound}
+use Rattle.client_world.specs.{declared.memory_map.TheConstants.{DOS_VIEW_PAGES}, declared.segments.FarPtr.{FarPtr}, Soundness.{IsSound}}
 use Rattle.client_world.specs.World.{Callback}
 use Rattle.guest_ram.specs.Bytes.{word_of}
 use Rattle.guest_ram.proofs.ListedLaws.{at_listed}
-use Rattle.host_memory.specs.Layout.{vectors_part}
-use Rattle.host_memory.specs.Vectors.{callback_at, callbacks_in, callbacks_start, exception_vectors_in, exceptions_start}
-use Rattle.host_memory.specs.Vectors.{interrupt_vectors_in, pageable_in, pageable_start, pointer_at}
-use Rattle.host_memory.specs.View.{MachineView}
-use Rattle.host_memory.proofs.PartBytes.{part_byte, part_dword, part_word}
-use Rattle.host_memory.proofs.VectorParts.{same_parts}
-use Rattle.host_memory.proofs.VectorWrites.{ChangesVectors, callback_changes, exception_changes, interrupt_changes, pageable_changes}
-use Rattle.host_memory.proofs.VectorWrites.{with_callback, with_pageable, with_vector, with_vectors}
-use Rattle.host_memory.proofs.WorldParts.{callbacks_is, exception_vectors_is, interrupt_vectors_is, pageable_is}
-use Rattle.guest_space.specs.Machines.{Processor, held_world}
-use Rattle.guest_space.specs.VectorLists.{callback_of_slot, is_pageable, vector_at}
+use Rattle.host_memory.specs.{Layout.{vectors_part}, Vectors.{callback_at, callbacks_in, callbacks_start, exception_vectors_in}}
+use Rattle.host_memory.specs.{Vectors.{exceptions_start, interrupt_vectors_in, pageable_in, pageable_start, pointer_at}, View.{MachineView}}
+use Rattle.host_memory.proofs.{PartBytes.{part_byte, part_dword, part_word}, VectorParts.{same_parts}, VectorWrites.{ChangesVectors}}
+use Rattle.host_memory.proofs.VectorWrites.{callback_changes, exception_changes, interrupt_changes, pageable_changes, with_callback}
+use Rattle.host_memory.proofs.{VectorWrites.{with_pageable, with_vector, with_vectors}, WorldParts.{callbacks_is, exception_vectors_is}}
+use Rattle.host_memory.proofs.WorldParts.{interrupt_vectors_is, pageable_is}
+use Rattle.guest_space.specs.{Machines.{Processor, held_world}, VectorLists.{callback_of_slot, is_pageable, vector_at}}
 use Rattle.guest_space.specs.declared.machine.Machine.TheInside.{Inside}
-use Rattle.guest_space.proofs.BlockViews.{IsView}
-use Rattle.guest_space.proofs.Insides.{processor_of, view_of, IsWhole, IsAfter, after_call}
+use Rattle.guest_space.proofs.{BlockViews.{IsView}, Insides.{processor_of, view_of, IsWhole, IsAfter, after_call}}
 use Rattle.guest_space.proofs.SoundLists.{IsSound-callbacks, IsSound-vectors}
 
 -- ---- reading

@@ -1,35 +1,18 @@
 -- A window of code stays where it is: whatever the client writes, and whatever its registers hold beside CS.
 use Rattle.std.proofs.Common.{◌≡◌, ◌∙◌, ℕ, ◌+◌, ◌^◌, ◌<◌, ◌≤◌, length, Bool, false, List, [], ◌∷◌, Ok, refl, ap, sym, arith}
-use Rattle.client_world.specs.declared.code.CodeWords.{CodeWords}
-use Rattle.client_world.specs.declared.place.Place.{Place}
-use Rattle.client_world.specs.declared.registers.Mode.{Mode}
-use Rattle.client_world.specs.declared.registers.Mode.TheVariants.{Real, Protected}
-use Rattle.client_world.specs.declared.registers.Regs.{Regs}
-use Rattle.client_world.specs.declared.segments.SegReg.TheVariants.{Cs}
-use Rattle.client_world.specs.Access.{linear, protected_base, real_base, segment_base}
-use Rattle.client_world.specs.CodeWords.{code_bytes}
-use Rattle.client_world.specs.Selector.{Row}
-use Rattle.client_world.specs.World.{World}
-use Rattle.guest_space.specs.declared.pending.Write.{Write}
+use Rattle.client_world.specs.{declared.code.CodeWords.{CodeWords}, declared.place.Place.{Place}, declared.registers.Mode.{Mode}}
+use Rattle.client_world.specs.{declared.registers.Mode.TheVariants.{Real, Protected}, declared.registers.Regs.{Regs}}
+use Rattle.client_world.specs.{declared.segments.SegReg.TheVariants.{Cs}, Access.{linear, protected_base, real_base, segment_base}}
+use Rattle.client_world.specs.{CodeWords.{code_bytes}, Selector.{Row}, World.{World}}
+use Rattle.guest_space.specs.{declared.pending.Write.{Write}, Code.{code_from}, declared.windows.CodeWindow.{CodeWindow}}
+use Rattle.guest_space.specs.{SegmentRows.{is_big}, Machines.{HoldsItsWorld, IsMachine, Processor}, Pending.{after_writes, after_write}}
+use Rattle.guest_space.specs.{Transfer.{read_result, translated}, Windows.{IsCodeRun, IsWindow}}
 use Rattle.guest_ram.specs.Bytes.{region}
 use Rattle.guest_ram.proofs.PutLaws.{length-region}
-use Rattle.guest_space.specs.Code.{code_from}
-use Rattle.guest_space.specs.declared.windows.CodeWindow.{CodeWindow}
-use Rattle.guest_space.specs.SegmentRows.{is_big}
-use Rattle.guest_space.specs.Machines.{HoldsItsWorld, IsMachine, Processor}
-use Rattle.guest_space.specs.Pending.{after_writes, after_write}
-use Rattle.guest_space.specs.Transfer.{read_result, translated}
-use Rattle.guest_space.specs.Windows.{IsCodeRun, IsWindow}
-use Rattle.guest_space.proofs.Accesses.{loaded_linear}
-use Rattle.guest_space.proofs.Codes.{whole_code}
-use Rattle.guest_space.proofs.KeptAccess.{SameAccess, same_then}
-use Rattle.guest_space.proofs.MachineLaws.{machine_all}
-use Rattle.guest_space.proofs.Parts.{segment_part}
-use Rattle.guest_space.proofs.Runs.{run_inside, run_loaded, run_touches}
-use Rattle.guest_space.proofs.WriteRuns.{translated_same, translated_where}
-use Rattle.guest_space.proofs.Writes.{same_written}
-use Rattle.host_memory.specs.Layout.{address_of}
-use Rattle.host_memory.specs.View.{MachineView}
+use Rattle.guest_space.proofs.{Accesses.{loaded_linear}, Codes.{whole_code}, KeptAccess.{SameAccess, same_then}, MachineLaws.{machine_all}}
+use Rattle.guest_space.proofs.{Parts.{segment_part}, Runs.{run_inside, run_loaded, run_touches}, WriteRuns.{translated_same}}
+use Rattle.guest_space.proofs.{WriteRuns.{translated_where}, Writes.{same_written}}
+use Rattle.host_memory.specs.{Layout.{address_of}, View.{MachineView}}
 
 -- after writes each access is what it was
 same_all : (v : MachineView) (xs : List Write) → SameAccess v.world (after_writes v xs).world

@@ -1,36 +1,19 @@
 -- Runs of bytes in one page: their parts are runs, a write leaves them runs, and writes to them have no fault.
 use Rattle.std.proofs.Common.{◌≡◌, ℕ, suc, ◌+◌, ◌-◌, ◌%◌, ◌<◌, ◌≤◌, ◌^◌, Bool, true, List, [], ◌∷◌, length, slice_index_or, ap, ◌∙◌, sym}
-use Rattle.std.proofs.Common.{subst, arith, None, Ok, Err}
+use Rattle.std.proofs.{Common.{subst, arith, None, Ok}, lemmas.Bool.Decides.{nat_tests}, lemmas.List.{get_or_default}}
 use Rattle.std.specs.List.{AllWithin}
-use Rattle.std.specs.Prelude.{if◌then◌else◌}
-use Rattle.std.proofs.lemmas.Bool.Decides.{nat_tests}
-use Rattle.std.proofs.lemmas.List.{get_or_default}
-use Rattle.std.proofs.lemmas.List.Elements.{AllWithin-more}
-use Rattle.client_world.specs.declared.place.Place.{Place}
-use Rattle.client_world.specs.declared.place.Place.TheVariants.{Nothing}
-use Rattle.client_world.specs.declared.registers.Mode.{Mode}
-use Rattle.client_world.specs.declared.registers.Regs.{Regs}
-use Rattle.client_world.specs.declared.segments.SegReg.{SegReg}
-use Rattle.client_world.specs.Access.{place_in, may_touch, is_present, page_fault, linear, segment_base, places_from}
-use Rattle.client_world.specs.Selector.{Row}
-use Rattle.client_world.specs.World.{World}
+use Rattle.client_world.specs.{declared.place.Place.{Place}, declared.place.Place.TheVariants.{Nothing}, declared.segments.SegReg.{SegReg}}
+use Rattle.client_world.specs.{Access.{place_in, linear, segment_base, places_from}, World.{World}}
 use Rattle.guest_ram.specs.Bytes.{put}
-use Rattle.host_memory.specs.Layout.{address_of}
-use Rattle.host_memory.specs.View.{MachineView}
+use Rattle.host_memory.specs.{Layout.{address_of}, View.{MachineView}}
 use Rattle.host_memory.proofs.WalkAnswers.{TouchesAt}
-use Rattle.guest_space.specs.declared.pending.Write.{Write}
-use Rattle.guest_space.specs.Machines.{Processor, held_world, IsMachine}
-use Rattle.guest_space.specs.Pending.{byte_count, number_bytes, write_fault, after_write, first_write_fault}
-use Rattle.guest_space.specs.Transfer.{translated, access_fault, after_store, with_places}
-use Rattle.guest_space.specs.WriteRuns.{LiesIn, IsRun, AreRuns}
-use Rattle.guest_space.proofs.Accesses.{refusal_linear, stored_linear}
-use Rattle.guest_space.proofs.KeptAccess.{SameAccess, same_places}
-use Rattle.guest_space.proofs.Machines.{AllBytes, CanWrite, CanWriteAll, with_place, can_write_after, with_places_none, with_places_short}
-use Rattle.guest_space.proofs.Machines.{with_places_first, written_machine, written_addresses}
-use Rattle.guest_space.proofs.Parts.{segment_part}
-use Rattle.guest_space.proofs.Puts.{store_is}
-use Rattle.guest_space.proofs.Runs.{run_all, run_inside, run_touches, no_fault, can_write_run}
-use Rattle.guest_space.proofs.Writes.{first_none, first_later}
+use Rattle.guest_space.specs.{declared.pending.Write.{Write}, Machines.{Processor, held_world, IsMachine}, Pending.{byte_count}}
+use Rattle.guest_space.specs.{Pending.{number_bytes, write_fault, after_write, first_write_fault}, Transfer.{translated, access_fault}}
+use Rattle.guest_space.specs.{Transfer.{after_store, with_places}, WriteRuns.{LiesIn, IsRun, AreRuns}}
+use Rattle.guest_space.proofs.{Accesses.{refusal_linear, stored_linear}, KeptAccess.{SameAccess, same_places}, Machines.{AllBytes}}
+use Rattle.guest_space.proofs.Machines.{CanWrite, CanWriteAll, with_place, can_write_after, with_places_none, with_places_short}
+use Rattle.guest_space.proofs.{Machines.{with_places_first, written_machine, written_addresses}, Parts.{segment_part}, Puts.{store_is}}
+use Rattle.guest_space.proofs.{Runs.{run_all, run_inside, run_touches, no_fault, can_write_run}, Writes.{first_none, first_later}}
 
 -- one more write in a span that may have grown
 pub span_grows : (seg : SegReg) (low high least most : ℕ) (xs : List Write) (i : ℕ) (e : Write) → i < length xs →

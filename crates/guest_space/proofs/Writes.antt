@@ -1,17 +1,11 @@
 -- Writes one after another: a write changes no refusal of the others, so what is left of them leads to the same end.
-use Rattle.std.proofs.Common.{◌≡◌, ◌≢◌, ℕ, suc, ◌+◌, ◌<◌, ◌≤◌, true, false, List, [], ◌∷◌, length, drop, slice_index_or, refl, ap, ◌∙◌, sym}
-use Rattle.std.proofs.Common.{arith, None, Some, Result, Ok, Err}
-use Rattle.std.specs.Prelude.{nat_eq, OnOk, IfErr, MatchResult}
-use Rattle.std.specs.Result.{result_err}
-use Rattle.std.specs.declared.option.Option.{Option}
-use Rattle.std.proofs.lemmas.List.{drop_all}
-use Rattle.std.proofs.Math.Seq.{drop-cons}
-use Rattle.client_world.specs.declared.faults.Fault.{Fault}
-use Rattle.client_world.specs.World.{World}
+use Rattle.std.proofs.Common.{◌≡◌, ◌≢◌, ℕ, ◌+◌, ◌<◌, ◌≤◌, true, false, List, [], ◌∷◌, length, drop, slice_index_or, refl, ap, ◌∙◌, sym}
+use Rattle.std.proofs.{Common.{arith, None, Some, Result, Ok, Err}, lemmas.List.{drop_all}, Math.Seq.{drop-cons}}
+use Rattle.std.specs.{Prelude.{nat_eq, OnOk, IfErr, MatchResult}, Result.{result_err}, declared.option.Option.{Option}}
+use Rattle.client_world.specs.{declared.faults.Fault.{Fault}, World.{World}}
 use Rattle.host_memory.specs.View.{MachineView}
-use Rattle.guest_space.specs.declared.pending.Write.{Write}
-use Rattle.guest_space.specs.Pending.{byte_count, number_bytes, write_fault, after_write, first_write_fault, after_writes}
-use Rattle.guest_space.specs.Transfer.{access_fault, after_store}
+use Rattle.guest_space.specs.{declared.pending.Write.{Write}, Pending.{byte_count, number_bytes, write_fault, after_write}}
+use Rattle.guest_space.specs.{Pending.{first_write_fault, after_writes}, Transfer.{access_fault, after_store}}
 use Rattle.guest_space.proofs.KeptAccess.{SameAccess, same_stored, refusal_same}
 
 -- the fault of a write, by its probe

@@ -1,27 +1,15 @@
 -- Writes one after another change the bytes of their places alone.
 use Rattle.std.proofs.Common.{◌≡◌, ℕ, suc, Bool, true, List, [], ◌∷◌, slice_index_or, refl, sym, subst, arith, Option, Result, Ok, Err}
-use Rattle.client_world.specs.declared.faults.Fault.{Fault}
-use Rattle.client_world.specs.declared.place.Place.{Place}
-use Rattle.client_world.specs.declared.place.Place.TheVariants.{Nothing}
-use Rattle.client_world.specs.declared.registers.Mode.{Mode}
-use Rattle.client_world.specs.declared.registers.Regs.{Regs}
-use Rattle.client_world.specs.declared.registers.Width.{Width}
-use Rattle.client_world.specs.Access.{access}
-use Rattle.client_world.specs.Soundness.{IsSound}
-use Rattle.host_memory.specs.Holds.{Holds}
-use Rattle.host_memory.specs.Layout.{world_of}
-use Rattle.host_memory.specs.View.{MachineView, OnlyAt}
-use Rattle.host_memory.proofs.OnlyAtLaws.{only_start, only_then}
-use Rattle.host_memory.proofs.WorldParts.{budget_is}
-use Rattle.guest_space.specs.declared.pending.Write.{Write}
-use Rattle.guest_space.specs.Machines.{Processor}
-use Rattle.guest_space.specs.Pending.{after_writes, byte_count, number_bytes, places_of_writes, after_write}
-use Rattle.guest_space.specs.Transfer.{places_of_access, after_store, with_places}
-use Rattle.guest_space.proofs.KeptAccess.{near_kept}
-use Rattle.guest_space.proofs.Machines.{CanWrite, CanWriteAll, with_place, can_write_after, with_places_none, with_places_short}
-use Rattle.guest_space.proofs.Machines.{with_places_first}
-use Rattle.guest_space.proofs.OnlyWritten.{HoldsBlocks, byte_holds, only_places, write_places}
-use Rattle.guest_space.proofs.Writes.{all_none, all_first}
+use Rattle.client_world.specs.{declared.faults.Fault.{Fault}, declared.place.Place.{Place}, declared.place.Place.TheVariants.{Nothing}}
+use Rattle.client_world.specs.{declared.registers.Mode.{Mode}, declared.registers.Regs.{Regs}, declared.registers.Width.{Width}}
+use Rattle.client_world.specs.{Access.{access}, Soundness.{IsSound}}
+use Rattle.host_memory.specs.{Holds.{Holds}, Layout.{world_of}, View.{MachineView, OnlyAt}}
+use Rattle.host_memory.proofs.{OnlyAtLaws.{only_start, only_then}, WorldParts.{budget_is}}
+use Rattle.guest_space.specs.{declared.pending.Write.{Write}, Machines.{Processor}, Pending.{after_writes, byte_count, number_bytes}}
+use Rattle.guest_space.specs.{Pending.{places_of_writes, after_write}, Transfer.{places_of_access, after_store, with_places}}
+use Rattle.guest_space.proofs.{KeptAccess.{near_kept}, Machines.{CanWrite, CanWriteAll, with_place, can_write_after, with_places_none}}
+use Rattle.guest_space.proofs.{Machines.{with_places_short, with_places_first}, OnlyWritten.{HoldsBlocks, byte_holds, only_places}}
+use Rattle.guest_space.proofs.{OnlyWritten.{write_places}, Writes.{all_none, all_first}}
 
 places_hold : (k : Processor) (v : MachineView) (places : List Place) (bytes : List ℕ) → HoldsBlocks k v → CanWriteAll v.world places →
     HoldsBlocks k (with_places v places bytes)
@@ -56,12 +44,13 @@ one_written k v x h =
     (write_places v.world x.seg x.off (byte_count x.width))
 
 -- the others' places are the same after it
-access_kept : (v : MachineView) (x y : Write) →
+pub access_kept : (v : MachineView) (x y : Write) →
     access (after_write v x).world y.seg y.off (byte_count y.width) true ≡ access v.world y.seg y.off (byte_count y.width) true
 unfolding after_write after_store
 access_kept v x y = grind (arith, near_kept)
 
-places_kept : (v : MachineView) (x : Write) (ys : List Write) → places_of_writes (after_write v x).world ys ≡ places_of_writes v.world ys
+pub places_kept : (v : MachineView) (x : Write) (ys : List Write) →
+    places_of_writes (after_write v x).world ys ≡ places_of_writes v.world ys
 places_kept v x [] = refl
 places_kept v x (y ∷ ys) = rw (access_kept v x y, places_kept v x ys) refl
 

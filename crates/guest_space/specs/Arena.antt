@@ -1,12 +1,9 @@
 -- The arena of DOS memory changed: entries in place of others, and the header paragraph of every entry written.
 -- Source: MS-DOS memory control blocks; that all of them are written at each change is own.
 use Rattle.std.specs.Prelude.{◌≡◌, ℕ, ◌+◌, ◌-◌, ◌*◌, false, List, [], ◌∷◌, ◌++◌, length, take, drop}
-use Rattle.client_world.specs.declared.dos_memory.DosEntry.{DosEntry}
-use Rattle.client_world.specs.DosMemory.{is_dpmi}
-use Rattle.client_world.specs.World.{World}
+use Rattle.client_world.specs.{declared.dos_memory.DosEntry.{DosEntry}, DosMemory.{is_dpmi}, World.{World}}
 use Rattle.guest_ram.specs.Listed.{zeros}
-use Rattle.host_memory.specs.DosList.{entry_bytes, entry_size, list_size}
-use Rattle.host_memory.specs.Headers.{with_headers}
+use Rattle.host_memory.specs.{DosList.{entry_bytes, entry_size, list_size}, Headers.{with_headers}}
 
 -- other entries in place of some, from a place on
 abbrev pub with_replaced_entries : List DosEntry → ℕ → ℕ → List DosEntry → List DosEntry

@@ -2,11 +2,9 @@
 -- Source: 80386 Programmer's Reference Manual, ch. 5, "Page Translation Cache".
 use Rattle.std.specs.Prelude.{◌≡◌, ℕ, ◌+◌, ◌*◌, ◌%◌, ◌<◌, Bool, true, false, List, length, Ok, Err, slice_index_or, if◌then◌else◌}
 use Rattle.std.specs.declared.result.Result.{Result}
-use Rattle.client_world.specs.declared.faults.PageFault.{PageFault}
-use Rattle.client_world.specs.declared.host_frames.TheConstants.{PAGE_SIZE, PAGE_DIRECTORY}
+use Rattle.client_world.specs.{declared.faults.PageFault.{PageFault}, declared.host_frames.TheConstants.{PAGE_SIZE, PAGE_DIRECTORY}}
 use Rattle.page_tables.specs.Walk.{fault, walked}
-use Rattle.guest_space.specs.declared.pages.CacheEntry.{CacheEntry}
-use Rattle.guest_space.specs.declared.pages.TheConstants.{CACHE_SIZE}
+use Rattle.guest_space.specs.{declared.pages.CacheEntry.{CacheEntry}, declared.pages.TheConstants.{CACHE_SIZE}}
 
 -- the number of pages of the linear addresses, and of frames that a page entry can name
 abbrev pub pages_in_all : ℕ

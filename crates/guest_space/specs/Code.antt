@@ -1,10 +1,7 @@
 -- The code bytes of the next instruction.
 -- Source: 80386 Programmer's Reference Manual, ch. 17; that an instruction has at most 15 bytes, ch. 9.
-use Rattle.std.specs.Prelude.{ℕ, zero, suc, ◌+◌, List, [], ◌∷◌, Ok, Err, slice_index}
-use Rattle.std.specs.declared.result.Result.{Result}
-use Rattle.client_world.specs.declared.faults.Fault.{Fault}
-use Rattle.client_world.specs.declared.segments.SegReg.TheVariants.{Cs}
-use Rattle.client_world.specs.World.{World}
+use Rattle.std.specs.{Prelude.{ℕ, zero, suc, ◌+◌, List, [], ◌∷◌, Ok, Err, slice_index}, declared.result.Result.{Result}}
+use Rattle.client_world.specs.{declared.faults.Fault.{Fault}, declared.segments.SegReg.TheVariants.{Cs}, World.{World}}
 use Rattle.guest_space.specs.Transfer.{read_result}
 
 -- the most bytes of an instruction

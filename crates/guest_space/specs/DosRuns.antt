@@ -2,18 +2,11 @@
 -- Source: DPMI 0.9, INT 31h functions 0100h to 0102h, of a 32-bit host; that a last descriptor of whole 64 KB has the limit FFFFh is own.
 use Rattle.std.specs.Prelude.{◌≡◌, ◌≢◌, ℕ, zero, suc, ◌+◌, ◌-◌, ◌*◌, ◌≤◌, true, false, List, [], ◌∷◌, length, take, drop, None, Some, max}
 use Rattle.std.specs.Prelude.{min, nat_eq, nat_lt, if◌then◌else◌, slice_set}
-use Rattle.client_world.specs.declared.descriptors.Desc.{Desc}
-use Rattle.client_world.specs.declared.descriptors.Kind.TheVariants.{Data}
-use Rattle.client_world.specs.declared.descriptors.Origin.TheVariants.{Dos}
-use Rattle.client_world.specs.declared.dos_memory.DosEntry.{DosEntry}
-use Rattle.client_world.specs.declared.dos_memory.DosRun.{DosRun}
-use Rattle.client_world.specs.declared.host_frames.TheConstants.{FIRST_FREE_DESCRIPTOR}
-use Rattle.client_world.specs.declared.memory_map.TheConstants.{PARAGRAPH_SIZE}
-use Rattle.client_world.specs.Descriptor.{plain}
-use Rattle.client_world.specs.DosMemory.{IsArena, is_dpmi, block_segment}
-use Rattle.client_world.specs.FreeRuns.{IsFreeRunOf}
-use Rattle.client_world.specs.Selector.{Row}
-use Rattle.client_world.specs.Soundness.{IsRunOf, descriptors_for}
+use Rattle.client_world.specs.{declared.descriptors.Desc.{Desc}, declared.descriptors.Kind.TheVariants.{Data}}
+use Rattle.client_world.specs.{declared.descriptors.Origin.TheVariants.{Dos}, declared.dos_memory.DosEntry.{DosEntry}}
+use Rattle.client_world.specs.{declared.dos_memory.DosRun.{DosRun}, declared.host_frames.TheConstants.{FIRST_FREE_DESCRIPTOR}}
+use Rattle.client_world.specs.{declared.memory_map.TheConstants.{PARAGRAPH_SIZE}, Descriptor.{plain}, DosMemory.{IsArena, is_dpmi}}
+use Rattle.client_world.specs.{DosMemory.{block_segment}, FreeRuns.{IsFreeRunOf}, Selector.{Row}, Soundness.{IsRunOf, descriptors_for}}
 use Rattle.client_world.specs.World.{World}
 use Rattle.guest_ram.specs.Bytes.{put}
 use Rattle.desc_table.specs.Rows.{row_address, row_bytes}

@@ -1,9 +1,7 @@
 -- Bytes at far pointers, by the rules of protected mode, whatever the mode is. These words stay closed above this crate.
 -- Source: own.
 use Rattle.std.specs.Prelude.{ℕ, ◌+◌, true, false, List}
-use Rattle.client_world.specs.declared.segments.FarPtr.{FarPtr}
-use Rattle.client_world.specs.Access.{far_access, bytes_of, with_bytes_of}
-use Rattle.client_world.specs.World.{World}
+use Rattle.client_world.specs.{declared.segments.FarPtr.{FarPtr}, Access.{far_access, bytes_of, with_bytes_of}, World.{World}}
 use Rattle.host_memory.specs.View.{MachineView}
 use Rattle.guest_space.specs.Transfer.{places_of_access, with_places}
 

@@ -2,21 +2,13 @@
 -- Source: 80386 Programmer's Reference Manual, ch. 5, "Segment Registers", figure 5-7, and figure 5-3 for the bits; own where there is
 -- none.
 use Rattle.std.specs.Prelude.{ℕ, ◌*◌, Bool, false, ◌&&◌, not, if◌then◌else◌, List, [], ◌∷◌, None, Some, Ok, Err}
-use Rattle.std.specs.declared.option.Option.{Option}
-use Rattle.std.specs.declared.result.Result.{Result}
-use Rattle.client_world.specs.declared.faults.Fault.{Fault}
-use Rattle.client_world.specs.declared.faults.TheConstants.{GENERAL_PROTECTION}
-use Rattle.client_world.specs.declared.memory_map.TheConstants.{PARAGRAPH_SIZE}
-use Rattle.client_world.specs.declared.registers.Mode.{Mode}
-use Rattle.client_world.specs.declared.registers.Mode.TheVariants.{Real, Protected}
-use Rattle.client_world.specs.declared.registers.Regs.{Regs}
-use Rattle.client_world.specs.declared.segments.SegReg.{SegReg}
-use Rattle.client_world.specs.declared.segments.SegReg.TheVariants.{Es, Cs, Ss, Ds, Fs, Gs}
-use Rattle.client_world.specs.Access.{fault_with, stack_or, suits_register}
-use Rattle.client_world.specs.Descriptor.{access_byte, byte_limit, is_within}
-use Rattle.client_world.specs.Registers.{has_bit}
-use Rattle.client_world.specs.Segments.{selector}
-use Rattle.client_world.specs.Selector.{Row, is_null, row_of_selector}
+use Rattle.std.specs.{declared.option.Option.{Option}, declared.result.Result.{Result}}
+use Rattle.client_world.specs.{declared.faults.Fault.{Fault}, declared.faults.TheConstants.{GENERAL_PROTECTION}}
+use Rattle.client_world.specs.{declared.memory_map.TheConstants.{PARAGRAPH_SIZE}, declared.registers.Mode.{Mode}}
+use Rattle.client_world.specs.{declared.registers.Mode.TheVariants.{Real, Protected}, declared.registers.Regs.{Regs}}
+use Rattle.client_world.specs.{declared.segments.SegReg.{SegReg}, declared.segments.SegReg.TheVariants.{Es, Cs, Ss, Ds, Fs, Gs}}
+use Rattle.client_world.specs.{Access.{fault_with, stack_or, suits_register}, Descriptor.{access_byte, byte_limit, is_within}}
+use Rattle.client_world.specs.{Registers.{has_bit}, Segments.{selector}, Selector.{Row, is_null, row_of_selector}}
 use Rattle.guest_space.specs.declared.hidden_parts.Hidden.{Hidden}
 
 -- the part that a row of the table gives a register: none where a read and a write are refused before the offset is asked

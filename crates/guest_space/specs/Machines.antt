@@ -1,14 +1,8 @@
 -- A view whose bytes hold its world, as those of every machine do. Source: own.
-use Rattle.std.specs.Prelude.{◌≡◌, ℕ, Bool, List}
-use Rattle.std.specs.declared.option.Option.{Option}
-use Rattle.client_world.specs.declared.registers.Mode.{Mode}
-use Rattle.client_world.specs.declared.registers.Regs.{Regs}
-use Rattle.client_world.specs.declared.registers.Width.{Width}
-use Rattle.client_world.specs.Soundness.{IsSound}
-use Rattle.client_world.specs.World.{World}
-use Rattle.host_memory.specs.Holds.{Holds}
-use Rattle.host_memory.specs.Layout.{world_of}
-use Rattle.host_memory.specs.View.{MachineView}
+use Rattle.std.specs.{Prelude.{◌≡◌, ℕ, Bool, List}, declared.option.Option.{Option}}
+use Rattle.client_world.specs.{declared.registers.Mode.{Mode}, declared.registers.Regs.{Regs}, declared.registers.Width.{Width}}
+use Rattle.client_world.specs.{Soundness.{IsSound}, World.{World}}
+use Rattle.host_memory.specs.{Holds.{Holds}, Layout.{world_of}, View.{MachineView}}
 
 -- what a machine has beside its memory
 pub record Processor : Type 0 where

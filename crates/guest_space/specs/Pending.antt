@@ -1,15 +1,10 @@
 -- Writes that are asked for one after another: all of them are probed first, and then all are made. Source: own.
 use Rattle.std.specs.Prelude.{◌≡◌, ◌⊎◌, ℕ, ◌%◌, ◌^◌, true, List, [], ◌∷◌, ◌++◌, None, Some, nat_eq, if◌then◌else◌}
 use Rattle.std.specs.declared.option.Option.{Option}
-use Rattle.client_world.specs.declared.faults.Fault.{Fault}
-use Rattle.client_world.specs.declared.place.Place.{Place}
-use Rattle.client_world.specs.Access.{access}
-use Rattle.client_world.specs.World.{World}
+use Rattle.client_world.specs.{declared.faults.Fault.{Fault}, declared.place.Place.{Place}, Access.{access}, World.{World}}
 use Rattle.guest_ram.specs.Bytes.{dword_bytes}
-use Rattle.host_memory.specs.Vectors.{word_bytes}
-use Rattle.host_memory.specs.View.{MachineView}
-use Rattle.guest_space.specs.declared.pending.Write.{Write}
-use Rattle.guest_space.specs.Transfer.{places_of_access, access_fault, after_store}
+use Rattle.host_memory.specs.{Vectors.{word_bytes}, View.{MachineView}}
+use Rattle.guest_space.specs.{declared.pending.Write.{Write}, Transfer.{places_of_access, access_fault, after_store}}
 
 -- the bytes of a number of 8, 16 or 32 bits, least byte first
 abbrev pub number_bytes : ℕ → ℕ → List ℕ

@@ -1,15 +1,10 @@
 -- The records of calls in the memory: where each is, and the machine with one more or one less. Source: own.
 use Rattle.std.specs.Prelude.{◌≡◌, ◌≢◌, ℕ, ◌+◌, ◌-◌, ◌*◌, ◌<◌, ◌≤◌, List, [], ◌∷◌, ◌++◌, length, take, slice_index, slice_index_or}
-use Rattle.client_world.specs.declared.calls.Record.{Record}
-use Rattle.client_world.specs.declared.host_frames.TheConstants.{PAGE_SIZE, BUDGET_FRAMES, RECORDS}
-use Rattle.client_world.specs.declared.memory_map.TheConstants.{DOS_SIZE}
-use Rattle.client_world.specs.declared.place.Place.{Place}
+use Rattle.client_world.specs.{declared.calls.Record.{Record}, declared.host_frames.TheConstants.{PAGE_SIZE, BUDGET_FRAMES, RECORDS}}
+use Rattle.client_world.specs.{declared.memory_map.TheConstants.{DOS_SIZE}, declared.place.Place.{Place}}
 use Rattle.client_world.specs.declared.place.Place.TheVariants.{Nothing}
-use Rattle.guest_ram.specs.Bytes.{put}
-use Rattle.guest_ram.specs.Listed.{zeros}
-use Rattle.host_memory.specs.Layout.{address_of}
-use Rattle.host_memory.specs.Records.{record_size}
-use Rattle.host_memory.specs.View.{MachineView}
+use Rattle.guest_ram.specs.{Bytes.{put}, Listed.{zeros}}
+use Rattle.host_memory.specs.{Layout.{address_of}, Records.{record_size}, View.{MachineView}}
 
 -- where a record lies in the memory, the outermost one at place 0
 abbrev pub record_place : ℕ → ℕ

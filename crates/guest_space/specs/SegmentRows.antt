@@ -2,10 +2,8 @@
 -- Source: 80386 Programmer's Reference Manual, ch. 5, "Segment Descriptors", and ch. 16, "How the 80386 Implements 16-Bit and 32-Bit
 -- Features", for bit D of code and bit B of a stack; own where there is no row.
 use Rattle.std.specs.Prelude.{ℕ, ◌*◌, Bool, false, List, None, Some}
-use Rattle.client_world.specs.declared.memory_map.TheConstants.{PARAGRAPH_SIZE}
-use Rattle.client_world.specs.declared.registers.Mode.{Mode}
-use Rattle.client_world.specs.declared.registers.Mode.TheVariants.{Real, Protected}
-use Rattle.client_world.specs.Selector.{Row, row_of_selector}
+use Rattle.client_world.specs.{declared.memory_map.TheConstants.{PARAGRAPH_SIZE}, declared.registers.Mode.{Mode}}
+use Rattle.client_world.specs.{declared.registers.Mode.TheVariants.{Real, Protected}, Selector.{Row, row_of_selector}}
 
 -- the bit D or B of a row is 1
 abbrev pub has_size_bit : Row → Bool

@@ -1,16 +1,11 @@
 -- What reads and writes through a segment register return, and the machine after them. These words stay closed above this crate.
 -- Source: 80386 Programmer's Reference Manual, ch. 2, "Memory Organization and Segmentation", and ch. 5.
 use Rattle.std.specs.Prelude.{◌≡◌, ℕ, Bool, true, false, List, [], ◌∷◌, None, Some, Ok, Err, if◌then◌else◌, slice_set}
-use Rattle.std.specs.declared.option.Option.{Option}
-use Rattle.std.specs.declared.result.Result.{Result}
-use Rattle.client_world.specs.declared.faults.Fault.{Fault}
-use Rattle.client_world.specs.declared.place.Place.{Place}
-use Rattle.client_world.specs.declared.segments.SegReg.{SegReg}
+use Rattle.std.specs.{declared.option.Option.{Option}, declared.result.Result.{Result}}
+use Rattle.client_world.specs.{declared.faults.Fault.{Fault}, declared.place.Place.{Place}, declared.segments.SegReg.{SegReg}}
 use Rattle.client_world.specs.Access.{access, bytes_of, with_bytes_of, may_touch, is_present, page_fault, place_of, places_from}
-use Rattle.client_world.specs.Access.{touched_places}
-use Rattle.client_world.specs.World.{World}
-use Rattle.host_memory.specs.Layout.{address_of}
-use Rattle.host_memory.specs.View.{MachineView}
+use Rattle.client_world.specs.{Access.{touched_places}, World.{World}}
+use Rattle.host_memory.specs.{Layout.{address_of}, View.{MachineView}}
 
 -- the bytes that a read of n bytes gives, or its fault
 abbrev pub bytes_at : World → Result (List Place) Fault → Result (List ℕ) Fault

@@ -1,10 +1,7 @@
 -- The protected-mode vectors, the real-mode callbacks, and the pages of the DOS megabyte's view that may be paged out, by their
 -- numbers. Source: own.
-use Rattle.std.specs.Prelude.{ℕ, Bool, false, List, None, slice_index_or}
-use Rattle.std.specs.declared.option.Option.{Option}
-use Rattle.client_world.specs.declared.segments.FarPtr.{FarPtr}
-use Rattle.client_world.specs.Segments.{null_pointer}
-use Rattle.client_world.specs.World.{Callback}
+use Rattle.std.specs.{Prelude.{ℕ, Bool, false, List, None, slice_index_or}, declared.option.Option.{Option}}
+use Rattle.client_world.specs.{declared.segments.FarPtr.{FarPtr}, Segments.{null_pointer}, World.{Callback}}
 
 -- the vector of a number; a number past the list has a null pointer
 abbrev pub vector_at : List FarPtr → ℕ → FarPtr

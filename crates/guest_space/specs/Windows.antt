@@ -1,11 +1,8 @@
 -- A window of code: bytes that may be fetched one after another, and that lie one after another in the memory. Source: own.
 use Rattle.std.specs.Prelude.{◌≡◌, ℕ, ◌+◌, ◌%◌, ◌≤◌, false, Ok}
-use Rattle.client_world.specs.declared.host_frames.TheConstants.{PAGE_SIZE}
-use Rattle.client_world.specs.declared.segments.SegReg.TheVariants.{Cs}
-use Rattle.client_world.specs.Access.{linear, segment_base}
-use Rattle.guest_space.specs.declared.windows.CodeWindow.{CodeWindow}
-use Rattle.guest_space.specs.SegmentRows.{is_big}
-use Rattle.guest_space.specs.Transfer.{translated}
+use Rattle.client_world.specs.{declared.host_frames.TheConstants.{PAGE_SIZE}, declared.segments.SegReg.TheVariants.{Cs}, Access.{linear}}
+use Rattle.client_world.specs.Access.{segment_base}
+use Rattle.guest_space.specs.{declared.windows.CodeWindow.{CodeWindow}, SegmentRows.{is_big}, Transfer.{translated}}
 use Rattle.host_memory.specs.View.{MachineView}
 
 -- n bytes from an offset of the segment in CS on may be fetched, and lie in one page; the address in the memory is that of the first

@@ -1,12 +1,9 @@
 -- Several writes whose bytes lie in one page, and their addresses in the memory. Source: own.
 use Rattle.std.specs.Prelude.{◌≡◌, ℕ, ◌+◌, ◌%◌, ◌≤◌, true, List, All, Ok}
-use Rattle.client_world.specs.declared.host_frames.TheConstants.{PAGE_SIZE}
-use Rattle.client_world.specs.declared.segments.SegReg.{SegReg}
-use Rattle.client_world.specs.Access.{linear, segment_base}
+use Rattle.client_world.specs.{declared.host_frames.TheConstants.{PAGE_SIZE}, declared.segments.SegReg.{SegReg}, Access.{linear}}
+use Rattle.client_world.specs.Access.{segment_base}
 use Rattle.host_memory.specs.View.{MachineView}
-use Rattle.guest_space.specs.declared.pending.Write.{Write}
-use Rattle.guest_space.specs.Pending.{byte_count}
-use Rattle.guest_space.specs.Transfer.{translated}
+use Rattle.guest_space.specs.{declared.pending.Write.{Write}, Pending.{byte_count}, Transfer.{translated}}
 
 -- a write is made through that segment register, and its bytes lie from one offset up to another
 abbrev pub LiesIn : SegReg → ℕ → ℕ → Write → Type 0

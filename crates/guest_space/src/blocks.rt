@@ -1,12 +1,8 @@
 // The memory blocks: their rows, pages, bytes and lock counts, all held in the bytes of the memory.
 ghost use Rattle.std.specs.Prelude.{◌≡◌, ◌≢◌, ◌≤◌, ◌<◌, None, Some, slice_index};
-ghost use Rattle.client_world.specs.declared.limits.TheConstants.{MAX_BLOCKS};
-ghost use Rattle.client_world.specs.declared.place.Place.{Place};
-ghost use Rattle.client_world.specs.Access.{IsHeld, HasByte, bytes_of_block, place_of};
-ghost use Rattle.client_world.specs.Soundness.{pages_of_blocks};
-ghost use Rattle.client_world.specs.World.{block_at, with_block_at};
-ghost use Rattle.block_memory.specs.BlockSizes.{CanMake, CanSize};
-ghost use Rattle.block_memory.specs.BlockSizes.{sized_block, fresh_block, IsBlocks, lock_in, with_lock, row_seen};
+ghost use Rattle.client_world.specs.{declared.limits.TheConstants.{MAX_BLOCKS}, declared.place.Place.{Place}, Access.{IsHeld, HasByte}};
+ghost use Rattle.client_world.specs.{Access.{bytes_of_block, place_of}, Soundness.{pages_of_blocks}, World.{block_at, with_block_at}};
+ghost use Rattle.block_memory.specs.BlockSizes.{CanMake, CanSize, sized_block, fresh_block, IsBlocks, lock_in, with_lock, row_seen};
 ghost use Rattle.block_memory.specs.BlockSizes.{blocks_with_zero_page, locked_pages};
 ghost use Rattle.host_memory.specs.Layout.{address_of};
 

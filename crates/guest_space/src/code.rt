@@ -1,10 +1,8 @@
 // Fetching code, byte by byte or from a window.
 ghost use Rattle.std.specs.Prelude.{◌≡◌, ◌≤◌, ◌<◌, ◌+◌, ◌^◌, IfSome, length};
-ghost use Rattle.client_world.specs.CodeWords.{code_bytes};
+ghost use Rattle.client_world.specs.{CodeWords.{code_bytes}, declared.host_frames.TheConstants.{PAGE_SIZE}};
 ghost use Rattle.guest_ram.specs.Bytes.{region};
-ghost use Rattle.guest_space.specs.Code.{code_byte, code_from, code_room};
-ghost use Rattle.client_world.specs.declared.host_frames.TheConstants.{PAGE_SIZE};
-ghost use Rattle.guest_space.specs.Windows.{IsWindow};
+ghost use Rattle.guest_space.specs.{Code.{code_byte, code_from, code_room}, Windows.{IsWindow}};
 
 use crate::machine::Machine;
 use crate::memory::is_in_page;

@@ -2,10 +2,9 @@
 ghost use Rattle.std.specs.Prelude.{◌≡◌, ◌≢◌, ◌≤◌, ◌<◌, ◌↔◌, ◌⊎◌, ℕ, IfSome, IsNone, Some, None, slice_set};
 ghost use Rattle.client_world.specs.declared.host_frames.TheConstants.{DESCRIPTORS, FIRST_FREE_DESCRIPTOR};
 ghost use Rattle.client_world.specs.declared.selectors.TheConstants.{HOST_CODE, HOST_STACKS};
-ghost use Rattle.client_world.specs.declared.descriptors.Origin.TheVariants.{Host as host};
-ghost use Rattle.client_world.specs.FreeRuns.{IsFreeRunOf, IsFirstFreeRunOf};
-ghost use Rattle.client_world.specs.Selector.{FitsRow, row_at_index, row_of_selector};
-ghost use Rattle.client_world.specs.Soundness.{IsSound, IsOfDosBlock, host_code, host_stacks};
+ghost use Rattle.client_world.specs.{declared.descriptors.Origin.TheVariants.{Host as host}, FreeRuns.{IsFreeRunOf, IsFirstFreeRunOf}};
+ghost use Rattle.client_world.specs.{Selector.{FitsRow, row_at_index, row_of_selector}, Soundness.{IsSound, IsOfDosBlock, host_code}};
+ghost use Rattle.client_world.specs.Soundness.{host_stacks};
 ghost use Rattle.guest_ram.specs.Bytes.{put};
 ghost use Rattle.desc_table.specs.Rows.{row_address, row_bytes};
 

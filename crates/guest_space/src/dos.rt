@@ -1,23 +1,17 @@
 // DOS memory: its bytes by their address, the list of its entries with their headers in the megabyte, and that list together with the
 // descriptors of a block of INT 31h function 0100h.
 ghost use Rattle.std.specs.Prelude.{◌≡◌, ◌+◌, ◌<◌, slice_index, ◌≤◌, ◌*◌, length, take, drop, slice_index_or, nat_eq, if◌then◌else◌};
-ghost use Rattle.client_world.specs.declared.memory_map.TheConstants.{DOS_SIZE};
-ghost use Rattle.client_world.specs.declared.dos_memory.DosEntry.{DosEntry};
+ghost use Rattle.client_world.specs.{declared.memory_map.TheConstants.{DOS_SIZE}, declared.dos_memory.DosEntry.{DosEntry}};
 ghost use Rattle.client_world.specs.declared.host_frames.TheConstants.{PAGE_SIZE, BUDGET_FRAMES, DOS_LIST, DESCRIPTORS};
-ghost use Rattle.client_world.specs.declared.place.Place.{Place};
-ghost use Rattle.guest_ram.specs.Bytes.{word_of, put};
-ghost use Rattle.guest_space.specs.Dos.{real_vector, with_dos_byte};
-ghost use Rattle.client_world.specs.Access.{real_address};
-ghost use Rattle.client_world.specs.DosMemory.{IsArena};
-ghost use Rattle.host_memory.specs.DosList.{state_of, entry_at, entry_count, entry_room, entry_size, arena_in, KeepsArena};
-ghost use Rattle.host_memory.specs.Headers.{with_headers};
-ghost use Rattle.host_memory.specs.Layout.{arena_part, address_of};
-ghost use Rattle.guest_space.specs.Arena.{with_replaced_entries, NoneMade, with_entries, list_bytes, arena_bytes};
-ghost use Rattle.client_world.specs.Selector.{FitsRow};
+ghost use Rattle.client_world.specs.{declared.place.Place.{Place}, Access.{real_address}, DosMemory.{IsArena}, Selector.{FitsRow}};
 ghost use Rattle.client_world.specs.Soundness.{descriptors_for};
+ghost use Rattle.guest_ram.specs.Bytes.{word_of, put};
+ghost use Rattle.guest_space.specs.{Dos.{real_vector, real_vector_address, with_dos_byte}, Arena.{with_replaced_entries, NoneMade}};
+ghost use Rattle.guest_space.specs.{Arena.{with_entries, list_bytes, arena_bytes}, DosRuns.{CanPutRun, dos_descriptor, dos_limit, dos_row}};
+ghost use Rattle.guest_space.specs.DosRuns.{rows_of_run, with_entries_and_run, with_run_bytes};
+ghost use Rattle.host_memory.specs.DosList.{state_of, entry_at, entry_count, entry_room, entry_size, arena_in, KeepsArena};
+ghost use Rattle.host_memory.specs.{Headers.{with_headers}, Layout.{arena_part, address_of}};
 ghost use Rattle.desc_table.specs.Rows.{HasRows};
-ghost use Rattle.guest_space.specs.DosRuns.{CanPutRun, dos_descriptor, dos_limit, dos_row, rows_of_run, with_entries_and_run};
-ghost use Rattle.guest_space.specs.DosRuns.{with_run_bytes};
 
 use crate::hidden_parts::all_parts;
 use crate::machine::Machine;
@@ -38,6 +32,14 @@ pub fn real_address(segment: u16, offset: u32) -> u32
     (u32::from(segment) * PARAGRAPH_SIZE + offset % SEGMENT_SIZE) % DOS_SIZE
 }
 
+/// Where the vector of real mode of an interrupt lies in the DOS megabyte: its offset, and two bytes above it its segment.
+/// Source: 80386 Programmer's Reference Manual, ch. 17, INT/INTO.
+pub fn real_vector_address(n: u8) -> u32
+    ensures { result ≡ real_vector_address n }
+{
+    4 * u32::from(n)
+}
+
 impl Machine {
     /// The byte of the DOS megabyte at an address below 100000h.
     pub fn dos8(&self, at: u32) -> u8
@@ -55,12 +57,12 @@ impl Machine {
         u16::from(self.dos8(at)) + 0x100 * u16::from(self.dos8(at + 1))
     }
 
-    /// The vector of real mode of an interrupt: an offset and a segment, words from 4 · n on.
+    /// The vector of real mode of an interrupt: an offset and a segment.
     /// Source: 80386 Programmer's Reference Manual, ch. 17, INT/INTO.
     pub fn real_vector(&self, n: u8) -> FarPtr
         ensures { result ≡ real_vector self.now.world n }
     {
-        let at = 4 * u32::from(n);
+        let at = real_vector_address(n);
         FarPtr {
             sel: self.dos16(at + 2),
             off: u32::from(self.dos16(at)),

@@ -1,10 +1,8 @@
 // Bytes at far pointers, by the rules of protected mode, whatever the mode is.
 ghost use Rattle.std.specs.Prelude.{◌≡◌, ◌≤◌, ◌<◌, IsTrue, true, false, [], ◌∷◌, length};
-ghost use Rattle.client_world.specs.declared.host_frames.TheConstants.{PAGE_SIZE};
-ghost use Rattle.client_world.specs.Access.{far_access, is_reachable};
+ghost use Rattle.client_world.specs.{declared.host_frames.TheConstants.{PAGE_SIZE}, Access.{far_access, is_reachable}};
 ghost use Rattle.host_memory.specs.View.{OnlyAt};
-ghost use Rattle.guest_space.specs.Far.{far_bytes, after_far_write};
-ghost use Rattle.guest_space.specs.Transfer.{places_of_access};
+ghost use Rattle.guest_space.specs.{Far.{far_bytes, after_far_write}, Transfer.{places_of_access}};
 
 use crate::machine::Machine;
 use client_world::{FarPtr, SegReg};

@@ -1,30 +1,24 @@
 // The hidden parts of the segment registers.
 ghost use Rattle.std.specs.Prelude.{◌≡◌, ◌<◌, ◌^◌, IsTrue, Ok};
-ghost use Rattle.client_world.specs.declared.registers.Mode.TheVariants.{Protected as protected};
-ghost use Rattle.client_world.specs.declared.segments.SegReg.{SegReg};
-ghost use Rattle.client_world.specs.Descriptor.{access_byte, is_within};
-ghost use Rattle.client_world.specs.Segments.{selector};
-ghost use Rattle.client_world.specs.Selector.{FitsRow};
+ghost use Rattle.client_world.specs.{declared.registers.Mode.TheVariants.{Protected as protected}, declared.segments.SegReg.{SegReg}};
+ghost use Rattle.client_world.specs.{Descriptor.{access_byte, is_within}, Segments.{selector}, Selector.{FitsRow}};
 ghost use Rattle.desc_table.specs.Rows.{HasRows, rows_from, rows_start};
-ghost use Rattle.guest_space.specs.HiddenParts.{all_found, base_within, is_data_with, number, part_in_row};
-ghost use Rattle.guest_space.specs.HiddenParts.{part_of_selector};
+ghost use Rattle.guest_space.specs.HiddenParts.{all_found, base_within, is_data_with, number, part_in_row, part_of_selector};
 
 use crate::segments::{fault_with, stack_or, suits_register};
 use client_world::faults::GENERAL_PROTECTION;
 use client_world::memory_map::{PARAGRAPH_SIZE, SEGMENT_SIZE};
 use client_world::selectors::{index_of, is_local, is_null};
-use client_world::{Desc, Fault, Mode, Origin, Regs, SegReg};
-use desc_table::{look, pack};
+use client_world::{Desc, Fault, Mode, Origin, Regs, SegReg, is_set};
+use desc_table::{access_byte, look};
 use guest_ram::Ram;
 
-// Where the access byte is in a descriptor's eight bytes, and its bits.
-const ACCESS: usize = 5;
+// The bits of the access byte.
+const WRITABLE: u32 = 0x02;
 
-const WRITABLE: u8 = 0x02;
+const EXPAND_DOWN: u32 = 0x04;
 
-const EXPAND_DOWN: u8 = 0x04;
-
-const EXECUTABLE: u8 = 0x08;
+const EXECUTABLE: u32 = 0x08;
 
 // That of present data that may be written, which every segment is in real mode.
 const REAL_ACCESS: u8 = 0xF3;
@@ -46,11 +40,12 @@ pub struct Hidden {
 
 // Whether the access byte is one of data, with that bit set.
 #[inline(always)]
-fn is_data_with(access: u8, bit: u8) -> bool
+fn is_data_with(access: u8, bit: u32) -> bool
     requires { 0 < bit }
     ensures { result ≡ is_data_with access bit }
 {
-    access / EXECUTABLE % 2 != 1 && access / bit % 2 == 1
+    let access = u32::from(access);
+    !is_set(access, EXECUTABLE) && is_set(access, bit)
 }
 
 impl Hidden {
@@ -116,15 +111,6 @@ pub(crate) fn number(seg: SegReg) -> usize
         SegReg::Fs => 4,
         SegReg::Gs => 5,
     }
-}
-
-// The access byte of a descriptor's eight bytes.
-#[tactic(auto, unfolding(client_world::specs::Descriptor::packed))]
-fn access_byte(d: &Desc) -> u8
-    requires { d.now.limit < 2 ^ 20 }
-    ensures { result ≡ access_byte d.now }
-{
-    pack(d)[ACCESS]
 }
 
 // The part that a row of the table gives a register.

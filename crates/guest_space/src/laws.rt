@@ -3,28 +3,16 @@ ghost use Rattle.std.specs.Prelude.{ℕ, ◌≡◌, ◌≢◌, ◌≤◌, ◌<�
 ghost use Rattle.std.specs.declared.option.Option.{Option};
 ghost use Rattle.client_world.specs.declared.host_frames.TheConstants.{PAGE_SIZE, BUDGET_FRAMES};
 ghost use Rattle.client_world.specs.declared.limits.TheConstants.{GREATEST_DEPTH};
-ghost use Rattle.client_world.specs.declared.memory_map.TheConstants.{PROTECTED_STACK_SIZE};
-ghost use Rattle.client_world.specs.declared.place.Place.{Place};
-ghost use Rattle.client_world.specs.declared.registers.Mode.{Mode};
-ghost use Rattle.client_world.specs.declared.registers.Regs.{Regs};
-ghost use Rattle.client_world.specs.declared.registers.Width.{Width};
-ghost use Rattle.client_world.specs.declared.segments.FarPtr.{FarPtr};
-ghost use Rattle.client_world.specs.declared.segments.SegReg.{SegReg};
-ghost use Rattle.client_world.specs.declared.selectors.TheConstants.{HOST_STACKS};
-ghost use Rattle.client_world.specs.Access.{access, far_access, is_reachable};
-ghost use Rattle.client_world.specs.Selector.{selector_of};
-ghost use Rattle.client_world.specs.Soundness.{IsSound};
-ghost use Rattle.client_world.specs.World.{World};
+ghost use Rattle.client_world.specs.{declared.memory_map.TheConstants.{PROTECTED_STACK_SIZE}, declared.place.Place.{Place}};
+ghost use Rattle.client_world.specs.{declared.registers.Mode.{Mode}, declared.registers.Regs.{Regs}, declared.registers.Width.{Width}};
+ghost use Rattle.client_world.specs.{declared.segments.FarPtr.{FarPtr}, declared.segments.SegReg.{SegReg}};
+ghost use Rattle.client_world.specs.{declared.selectors.TheConstants.{HOST_STACKS}, Access.{access, far_access, is_reachable}};
+ghost use Rattle.client_world.specs.{Selector.{selector_of}, Soundness.{IsSound}, World.{World}};
 ghost use Rattle.guest_ram.specs.Bytes.{AreBytes, put, region};
-ghost use Rattle.host_memory.specs.Holds.{Holds};
-ghost use Rattle.host_memory.specs.Layout.{world_of};
-ghost use Rattle.host_memory.specs.Records.{record_size};
-ghost use Rattle.host_memory.specs.View.{MachineView, OnlyAt};
-ghost use Rattle.guest_space.specs.declared.pending.Write.{Write};
-ghost use Rattle.guest_space.specs.Pending.{after_writes, places_of_writes};
-ghost use Rattle.guest_space.specs.Far.{far_bytes, after_far_write, further};
-ghost use Rattle.guest_space.specs.Records.{OnlyAtAndRow, record_place};
-ghost use Rattle.guest_space.specs.Transfer.{HasOtherMemory, places_of_access, after_store, with_places};
+ghost use Rattle.host_memory.specs.{Holds.{Holds}, Layout.{world_of}, Records.{record_size}, View.{MachineView, OnlyAt}};
+ghost use Rattle.guest_space.specs.{declared.pending.Write.{Write}, Pending.{after_writes, places_of_writes}, Far.{far_bytes}};
+ghost use Rattle.guest_space.specs.{Far.{after_far_write, further}, Records.{OnlyAtAndRow, record_place}, Transfer.{HasOtherMemory}};
+ghost use Rattle.guest_space.specs.Transfer.{places_of_access, after_store, with_places};
 
 /// A write that has no fault changes the bytes of its places, and nothing else in the memory.
 pub fn every_write_changes_only_its_places()

@@ -33,7 +33,7 @@ mod tests;
 mod vectors;
 mod windows;
 
-pub use dos::{descriptors_for, real_address};
+pub use dos::{descriptors_for, real_address, real_vector_address};
 pub use laws::{
     a_part_is_read_as_in_the_run, a_reachable_run_is_reachable_in_parts, a_write_changes_no_access,
     all_writes_change_only_their_places, every_far_write_changes_only_its_places,

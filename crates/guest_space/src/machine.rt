@@ -1,15 +1,9 @@
 // The machine: what the processor keeps, and the memory that holds all else.
 ghost use Rattle.std.specs.Prelude.{◌≡◌, ◌≢◌, ◌≤◌, ◌<◌, ◌^◌, ℕ, Bool, true, IfOk, None};
-ghost use Rattle.client_world.specs.declared.host_frames.TheConstants.{PAGE_DIRECTORY};
-ghost use Rattle.client_world.specs.declared.limits.TheConstants.{MAX_PAGES};
-ghost use Rattle.client_world.specs.declared.registers.Mode.TheVariants.{Protected as protected};
-ghost use Rattle.client_world.specs.Access.{may_touch, place_of};
-ghost use Rattle.client_world.specs.General.{with_general};
-ghost use Rattle.client_world.specs.Segments.{with_selector};
-ghost use Rattle.client_world.specs.Soundness.{HasSegments, IsSound};
-ghost use Rattle.host_memory.specs.Blank.{blank_world};
-ghost use Rattle.host_memory.specs.HoldsWorld.{HoldsWorld};
-ghost use Rattle.host_memory.specs.Law.{walk_result, StandsAt};
+ghost use Rattle.client_world.specs.{declared.host_frames.TheConstants.{PAGE_DIRECTORY}, declared.limits.TheConstants.{MAX_PAGES}};
+ghost use Rattle.client_world.specs.{declared.registers.Mode.TheVariants.{Protected as protected}, Access.{may_touch, place_of}};
+ghost use Rattle.client_world.specs.{General.{with_general}, Segments.{with_selector}, Soundness.{HasSegments, IsSound}};
+ghost use Rattle.host_memory.specs.{Blank.{blank_world}, HoldsWorld.{HoldsWorld}, Law.{walk_result, StandsAt}};
 ghost use Rattle.page_tables.specs.Walk.{walked};
 ghost use Rattle.guest_space.specs.Registers.{with_registers};
 

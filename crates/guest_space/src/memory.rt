@@ -2,14 +2,12 @@
 // the page, and else by the tables.
 ghost use Rattle.std.specs.Prelude.{ℕ, slice_index, ◌≡◌, ◌≤◌, ◌<◌, ◌+◌, ◌%◌, OnOk, IfErr, IfSome, MatchResult, nat_le, Ok, Err, None, Some};
 ghost use Rattle.std.specs.Prelude.{true, false, length, [], ◌∷◌, IsTrue, IsFalse};
-ghost use Rattle.client_world.specs.declared.host_frames.TheConstants.{PAGE_SIZE};
-ghost use Rattle.client_world.specs.Access.{access, byte_of, bytes_of, may_touch, place_of, places_from};
+ghost use Rattle.client_world.specs.{declared.host_frames.TheConstants.{PAGE_SIZE}, Access.{access, byte_of, bytes_of, may_touch}};
+ghost use Rattle.client_world.specs.Access.{place_of, places_from};
 ghost use Rattle.host_memory.specs.View.{OnlyAt};
-ghost use Rattle.guest_space.specs.Machines.{HoldsItsWorld};
-ghost use Rattle.guest_space.specs.Transfer.{read_result, places_of_access, access_fault, after_store, translated, linear_access, bytes_at};
-ghost use Rattle.guest_space.specs.Transfer.{fault_of, with_places};
-ghost use Rattle.guest_space.specs.Pending.{byte_count, write_fault, after_write};
-ghost use Rattle.guest_space.specs.WriteRuns.{IsRun};
+ghost use Rattle.guest_space.specs.{Machines.{HoldsItsWorld}, Transfer.{read_result, places_of_access, access_fault, after_store}};
+ghost use Rattle.guest_space.specs.{Transfer.{translated, linear_access, bytes_at, fault_of, with_places}, Pending.{byte_count}};
+ghost use Rattle.guest_space.specs.{Pending.{write_fault, after_write}, WriteRuns.{IsRun}};
 
 use crate::machine::Machine;
 use crate::pending::{Write, byte_count};

@@ -1,10 +1,8 @@
 // Several reads or writes whose bytes lie in one page: one look at the segment and one walk of the page tables serve all of them.
 ghost use Rattle.std.specs.Prelude.{◌≡◌, ◌<◌, ◌≤◌, ◌+◌, ℕ, All, IfSome, None, ◌*◌, List, Ok, slice_index_or};
-ghost use Rattle.client_world.specs.declared.host_frames.TheConstants.{PAGE_SIZE};
-ghost use Rattle.client_world.specs.declared.memory_map.TheConstants.{SEGMENT_SIZE};
-ghost use Rattle.guest_space.specs.Pending.{byte_count, first_write_fault, after_write, after_writes};
-ghost use Rattle.guest_space.specs.Transfer.{after_store, read_result};
-ghost use Rattle.guest_space.specs.WriteRuns.{LiesIn, IsRun, AreRuns};
+ghost use Rattle.client_world.specs.{declared.host_frames.TheConstants.{PAGE_SIZE}, declared.memory_map.TheConstants.{SEGMENT_SIZE}};
+ghost use Rattle.guest_space.specs.{Pending.{byte_count, first_write_fault, after_write, after_writes}, Transfer.{after_store}};
+ghost use Rattle.guest_space.specs.{Transfer.{read_result}, WriteRuns.{LiesIn, IsRun, AreRuns}};
 
 use crate::machine::Machine;
 use crate::memory::{are_bytes, is_in_page};

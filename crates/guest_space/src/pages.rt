@@ -1,10 +1,8 @@
 // From a linear address to the memory: by the page tables, and by the cache of their translations.
-ghost use Rattle.std.specs.Prelude.{ℕ, ◌≡◌, ◌≤◌, ◌<◌, ◌%◌, IfSome, MatchResult, Ok, None, Some, true, false, ◌/◌, IsTrue};
-ghost use Rattle.std.specs.Prelude.{List};
-ghost use Rattle.client_world.specs.declared.host_frames.TheConstants.{PAGE_SIZE, PAGE_DIRECTORY};
-ghost use Rattle.client_world.specs.Access.{page_fault};
-ghost use Rattle.guest_space.specs.Transfer.{translated, linear_access, fault_of};
-ghost use Rattle.guest_space.specs.Cache.{ends, Hit, Warm};
+ghost use Rattle.std.specs.Prelude.{ℕ, ◌≡◌, ◌≤◌, ◌<◌, ◌%◌, IfSome, MatchResult, Ok, None, Some, true, false, ◌/◌, IsTrue, List};
+ghost use Rattle.client_world.specs.{declared.host_frames.TheConstants.{PAGE_SIZE, PAGE_DIRECTORY}, Access.{may_touch, page_fault}};
+ghost use Rattle.client_world.specs.Access.{place_of};
+ghost use Rattle.guest_space.specs.{Transfer.{translated, linear_access, fault_of}, Cache.{ends, Hit, Warm}};
 ghost use Rattle.guest_space.specs.declared.pages.TheConstants.{CACHE_SIZE};
 ghost use Rattle.page_tables.specs.Walk.{IsFrame, TablesInside, walked};
 
@@ -133,6 +131,15 @@ impl Machine {
             Ok(at) => Ok(at),
             Err(fault) => Err(page_fault(fault.present, write)),
         }
+    }
+
+    /// Whether the client may read the byte of a linear address, or write it.
+    /// Source: 80386 Programmer's Reference Manual, ch. 6, "Page-Level Protection"; which pages it may touch is own.
+    #[tactic(auto, unfolding(crate::specs::Transfer::translated))]
+    pub fn may_touch(&self, lin: u32, write: bool) -> bool
+        ensures { result ≡ may_touch (place_of self.now.world lin) write }
+    {
+        self.translate(lin, write).is_ok()
     }
 
     /// Whether each of n bytes from a linear address on may be touched, or the fault of the first that may not.

@@ -2,11 +2,9 @@
 ghost use Rattle.std.specs.Prelude.{◌≡◌, IsTrue, IsFalse, OnOk, IfErr, MatchResult, None, Some, true};
 ghost use Rattle.client_world.specs.Access.{access};
 ghost use Rattle.guest_ram.specs.Bytes.{dword_bytes};
-ghost use Rattle.host_memory.specs.Vectors.{word_bytes};
-ghost use Rattle.host_memory.specs.View.{OnlyAt};
+ghost use Rattle.host_memory.specs.{Vectors.{word_bytes}, View.{OnlyAt}};
 ghost use Rattle.guest_space.specs.Pending.{IsCountOfWidth, byte_count, number_bytes, write_fault, after_write, first_write_fault};
-ghost use Rattle.guest_space.specs.Pending.{after_writes, places_of_writes};
-ghost use Rattle.guest_space.specs.Transfer.{places_of_access};
+ghost use Rattle.guest_space.specs.{Pending.{after_writes, places_of_writes}, Transfer.{places_of_access}};
 
 use crate::machine::Machine;
 use client_world::{Fault, SegReg, low_half};

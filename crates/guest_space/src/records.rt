@@ -1,11 +1,9 @@
 // The records of calls, which lie in the host's frames.
-ghost use Rattle.std.specs.Prelude.{◌≡◌, ◌≢◌, ◌≤◌, ◌<◌, ◌*◌, Some, None, length, slice_index};
-ghost use Rattle.std.specs.List.{slice_get};
+ghost use Rattle.std.specs.{Prelude.{◌≡◌, ◌≢◌, ◌≤◌, ◌<◌, ◌*◌, Some, None, length, slice_index}, List.{slice_get}};
 ghost use Rattle.client_world.specs.declared.host_frames.TheConstants.{PAGE_SIZE, BUDGET_FRAMES};
 ghost use Rattle.client_world.specs.declared.limits.TheConstants.{GREATEST_DEPTH};
 ghost use Rattle.guest_ram.specs.Bytes.{region};
-ghost use Rattle.host_memory.specs.Layout.{records_part};
-ghost use Rattle.host_memory.specs.Records.{record_at, record_bytes, record_count, record_size};
+ghost use Rattle.host_memory.specs.{Layout.{records_part}, Records.{record_at, record_bytes, record_count, record_size}};
 ghost use Rattle.guest_space.specs.Records.{record_place, with_record, without_record};
 
 use crate::machine::Machine;

@@ -1,13 +1,10 @@
 // Segment registers: where an access through one begins, how it is refused before any page is asked, and which selectors one takes.
 ghost use Rattle.std.specs.Prelude.{◌≡◌, IfSome, IsTrue, None, Ok, false, ◌&&◌, ◌||◌, not, MatchResult, OnOk, IfErr, Some};
 ghost use Rattle.client_world.specs.Access.{fault_with, stack_or, suits_register, base_in_row, protected_base, segment_base};
-ghost use Rattle.client_world.specs.Selector.{row_of_selector};
-ghost use Rattle.client_world.specs.Loading.{transfer_fault, is_privileged, data_fault, stack_fault, code_fault, load_fault};
-ghost use Rattle.client_world.specs.Loading.{register_fault};
-ghost use Rattle.client_world.specs.Segments.{selector, with_selector};
-ghost use Rattle.guest_space.specs.HiddenParts.{found};
-ghost use Rattle.guest_space.specs.SegmentRows.{base_of_row, first_byte, has_size_bit, is_big};
+ghost use Rattle.client_world.specs.{Selector.{row_of_selector}, Loading.{transfer_fault, is_privileged, data_fault, stack_fault}};
+ghost use Rattle.client_world.specs.{Loading.{code_fault, load_fault, register_fault}, Segments.{selector, with_selector}};
 ghost use Rattle.client_world.specs.Descriptor.{is_code, is_writable};
+ghost use Rattle.guest_space.specs.{HiddenParts.{found}, SegmentRows.{base_of_row, first_byte, has_size_bit, is_big}};
 
 use crate::hidden_parts::{Hidden, number};
 use crate::machine::Machine;

@@ -2,28 +2,18 @@
 ghost use Rattle.std.specs.Prelude.{◌≡◌, ◌≢◌, ◌≤◌, ◌<◌, ◌+◌, ◌*◌, ◌++◌, None, cond, length, slice_set};
 ghost use Rattle.client_world.specs.declared.host_frames.TheConstants.{PAGE_SIZE, BUDGET_FRAMES, CALLBACK_SIZE, VECTORS, VECTOR_FRAMES};
 ghost use Rattle.client_world.specs.declared.limits.TheConstants.{CALLBACKS, EXCEPTION_VECTORS};
-ghost use Rattle.client_world.specs.declared.memory_map.TheConstants.{DOS_VIEW_PAGES};
-ghost use Rattle.client_world.specs.declared.place.Place.{Place};
+ghost use Rattle.client_world.specs.{declared.memory_map.TheConstants.{DOS_VIEW_PAGES}, declared.place.Place.{Place}};
 ghost use Rattle.guest_ram.specs.Bytes.{dword_bytes, put};
 ghost use Rattle.guest_space.specs.VectorLists.{callback_of_slot, is_pageable, vector_at};
-ghost use Rattle.host_memory.specs.Layout.{address_of};
-ghost use Rattle.host_memory.specs.Vectors.{callback_at, callback_bytes, pointer_at};
-ghost use Rattle.host_memory.specs.Vectors.{pointer_bytes, word_bytes};
+ghost use Rattle.host_memory.specs.{Layout.{address_of}, Vectors.{callback_at, callback_bytes, pointer_at, pointer_bytes, word_bytes}};
 
 use crate::machine::Machine;
 use client_world::FarPtr;
-use client_world::host_frames::{CALLBACK_SIZE, PAGE_SIZE, VECTOR_SIZE, VECTORS};
-use client_world::limits::{CALLBACKS, EXCEPTION_VECTORS, INTERRUPT_VECTORS};
+use client_world::host_frames::{
+    CALLBACK_SIZE, CALLBACKS_START, EXCEPTIONS_START, PAGE_SIZE, PAGEABLE_START, VECTOR_SIZE,
+    VECTORS,
+};
 use guest_ram::Ram;
-
-// Where the exception vectors lie in the frame of the vectors.
-const EXCEPTIONS_START: u32 = VECTOR_SIZE * INTERRUPT_VECTORS;
-
-// Where the callbacks lie in that frame.
-const CALLBACKS_START: u32 = EXCEPTIONS_START + VECTOR_SIZE * EXCEPTION_VECTORS;
-
-// Where the byte of each pageable page lies in that frame.
-const PAGEABLE_START: u32 = CALLBACKS_START + CALLBACK_SIZE * CALLBACKS;
 
 // Where a callback has the far pointer to its structure.
 const STRUCTURE: u32 = 6;

@@ -1,32 +1,25 @@
 -- A new memory holds a world, the blank one.
-use Rattle.std.proofs.Common.{◌≡◌, ℕ, ◌+◌, ◌-◌, ◌*◌, ◌≤◌, inl, inr, true, false, List, slice_index, nat_eq, None, refl, ap, ◌∙◌, sym, arith}
+use Rattle.std.proofs.Common.{◌≡◌, ℕ, ◌+◌, ◌-◌, ◌*◌, ◌≤◌, inl, inr, true, false, List, slice_index, nat_eq, None, ap, ◌∙◌, sym, arith}
 use Rattle.std.specs.declared.option.Option.{Option}
-use Rattle.client_world.specs.declared.registers.Mode.TheVariants.{Real}
-use Rattle.client_world.specs.declared.host_frames.TheConstants.{DESCRIPTORS, BLOCK_ROW_SIZE, CALLBACK_SIZE, DESCRIPTOR_ROW_SIZE}
-use Rattle.client_world.specs.declared.host_frames.TheConstants.{VECTOR_SIZE}
+use Rattle.client_world.specs.{declared.registers.Mode.TheVariants.{Real}, declared.host_frames.TheConstants.{DESCRIPTORS, BLOCK_ROW_SIZE}}
+use Rattle.client_world.specs.declared.host_frames.TheConstants.{CALLBACK_SIZE, DESCRIPTOR_ROW_SIZE, VECTOR_SIZE}
 use Rattle.client_world.specs.declared.limits.TheConstants.{MAX_BLOCKS, MAX_PAGES, CALLBACKS, INTERRUPT_VECTORS, EXCEPTION_VECTORS}
-use Rattle.client_world.specs.declared.memory_map.TheConstants.{DOS_VIEW_PAGES}
-use Rattle.client_world.specs.declared.traps.TheConstants.{PROTECTED_VECTOR_TRAPS, EXCEPTION_TRAPS}
-use Rattle.client_world.specs.Selector.{Row}
-use Rattle.client_world.specs.World.{Callback}
+use Rattle.client_world.specs.{declared.memory_map.TheConstants.{DOS_VIEW_PAGES}, declared.traps.TheConstants.{PROTECTED_VECTOR_TRAPS}}
+use Rattle.client_world.specs.{declared.traps.TheConstants.{EXCEPTION_TRAPS}, Selector.{Row}, World.{Callback}}
 use Rattle.guest_ram.specs.Listed.{listed}
-use Rattle.guest_ram.proofs.PutLaws.{dword-region}
-use Rattle.guest_ram.proofs.ListedLaws.{same_listed}
+use Rattle.guest_ram.proofs.{PutLaws.{dword-region}, ListedLaws.{same_listed}}
 use Rattle.desc_table.specs.Rows.{row_at, row_bytes, rows_from}
-use Rattle.host_memory.specs.Blank.{no_regs, blank_world, host_pointer}
-use Rattle.host_memory.specs.Holds.{Holds, KeepsRows, KeepsHandles}
-use Rattle.host_memory.specs.Layout.{world_of, fixed_part, tables_part, rows_part, vectors_part, records_part, handles_part, locks_part}
-use Rattle.host_memory.specs.Layout.{arena_part, taken_part, budget_part, block_in, blocks_in, pages_of}
-use Rattle.host_memory.specs.Records.{KeepsRecords}
-use Rattle.host_memory.specs.Tables.{HasFixedEntries, HasBlockEntries}
-use Rattle.host_memory.specs.Vectors.{KeepsVectors, pointer_at, callback_at, callback_bytes, callbacks_start, pageable_start}
-use Rattle.host_memory.specs.Vectors.{exceptions_start, interrupt_vectors_in, exception_vectors_in, callbacks_in, pageable_in}
-use Rattle.host_memory.proofs.FreeParts.{parts_of_list}
-use Rattle.host_memory.proofs.FreshMemory.{IsBlank}
-use Rattle.host_memory.proofs.BlankLists.{OneEntry, no_records, no_calls, arena_is_whole, keeps_one_entry, none_used, no_pages_together}
-use Rattle.host_memory.proofs.BlankParts.{rows_zero, records_zero, handles_zero, taken_zero, no_entry, no_pages, no_lock, free_row_byte}
-use Rattle.host_memory.proofs.BlankParts.{no_row, vector_of, vector_is, vector_byte_is, rest_zero, no_callback, free_callback_byte}
-use Rattle.host_memory.proofs.BlankParts.{arena_byte, arena_zero}
+use Rattle.host_memory.specs.{Blank.{no_regs, blank_world, host_pointer}, Holds.{Holds, KeepsRows, KeepsHandles}, Layout.{world_of}}
+use Rattle.host_memory.specs.Layout.{fixed_part, tables_part, rows_part, vectors_part, records_part, handles_part, locks_part, arena_part}
+use Rattle.host_memory.specs.{Layout.{taken_part, budget_part, block_in, blocks_in}, Records.{KeepsRecords}, Tables.{HasFixedEntries}}
+use Rattle.host_memory.specs.{Tables.{HasBlockEntries}, Vectors.{KeepsVectors, pointer_at, callback_at, callback_bytes, callbacks_start}}
+use Rattle.host_memory.specs.Vectors.{pageable_start, exceptions_start, interrupt_vectors_in, exception_vectors_in, callbacks_in}
+use Rattle.host_memory.specs.Vectors.{pageable_in}
+use Rattle.host_memory.proofs.{BlockRows.{row_free}, FreeParts.{parts_of_list}, FreshMemory.{IsBlank}, BlankLists.{OneEntry, no_records}}
+use Rattle.host_memory.proofs.{BlankLists.{no_calls, arena_is_whole, keeps_one_entry, none_used, no_pages_together}, BlankParts.{rows_zero}}
+use Rattle.host_memory.proofs.BlankParts.{records_zero, handles_zero, taken_zero, no_entry, no_pages, no_lock, free_row_byte, no_row}
+use Rattle.host_memory.proofs.BlankParts.{vector_of, vector_is, vector_byte_is, rest_zero, no_callback, free_callback_byte, arena_byte}
+use Rattle.host_memory.proofs.BlankParts.{arena_zero}
 
 fixed_entries : (b : List ℕ) (budget : ℕ) → IsBlank b budget → HasFixedEntries (fixed_part b)
 fixed_entries b budget h = grind (arith, dword-region)
@@ -94,17 +87,11 @@ blank_holds b budget most h = record {
   arena = keeps_one_entry (arena_part b) (one_entry b budget h);
 }
 
--- and which one
-no_block : (handles tables locks frames : List ℕ) (place : ℕ) → pages_of handles place ≡ 0 →
-    block_in handles tables locks frames place ≡ None
-unfolding block_in
-no_block handles tables locks frames place e = rw e refl
-
 no_blocks : (b : List ℕ) (budget : ℕ) → IsBlank b budget →
     blocks_in (handles_part b) (tables_part b) (locks_part b) (budget_part b budget) ≡ listed MAX_BLOCKS (λ place. None)
 no_blocks b budget h =
     same_listed MAX_BLOCKS (block_in (handles_part b) (tables_part b) (locks_part b) (budget_part b budget)) (λ place. None)
-    (λ place small. no_block (handles_part b) (tables_part b) (locks_part b) (budget_part b budget) place (no_pages b budget h place))
+    (λ place small. row_free (handles_part b) (tables_part b) (locks_part b) (budget_part b budget) place (no_pages b budget h place))
 
 no_rows : (b : List ℕ) (budget : ℕ) → IsBlank b budget → rows_from (rows_part b) 0 ≡ listed DESCRIPTORS (λ index. None)
 unfolding rows_from

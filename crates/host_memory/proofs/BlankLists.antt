@@ -1,15 +1,11 @@
 -- Lists whose length the bytes tell, in a new memory: no record of a call, one entry of DOS memory; and counts that are 0.
 use Rattle.std.proofs.Common.{◌≡◌, ℕ, ◌+◌, ◌*◌, ◌<◌, ◌≤◌, zero, suc, List, [], ◌∷◌, slice_index, refl, ap, ◌∙◌, sym, arith}
 use Rattle.std.specs.List.{range_with_len}
-use Rattle.client_world.specs.declared.dos_memory.DosEntry.{DosEntry}
-use Rattle.client_world.specs.declared.limits.TheConstants.{MAX_BLOCKS, GREATEST_DEPTH}
-use Rattle.guest_ram.specs.Count.{used, total}
-use Rattle.guest_ram.specs.Listed.{listed}
-use Rattle.host_memory.specs.Blank.{blank_arena}
-use Rattle.host_memory.specs.DosList.{entry_at, entry_bytes, entries_from, entry_count, entry_size, arena_in, KeepsArena}
-use Rattle.host_memory.specs.Holds.{all_pages}
-use Rattle.host_memory.specs.Layout.{pages_of}
-use Rattle.host_memory.specs.Records.{records_from, record_count, record_size, calls_in}
+use Rattle.client_world.specs.{declared.dos_memory.DosEntry.{DosEntry}, declared.limits.TheConstants.{MAX_BLOCKS, GREATEST_DEPTH}}
+use Rattle.guest_ram.specs.{Count.{used, total}, Listed.{listed}}
+use Rattle.host_memory.specs.{Blank.{blank_arena}, DosList.{entry_at, entry_bytes, entries_from, entry_count, entry_size, arena_in}}
+use Rattle.host_memory.specs.{DosList.{KeepsArena}, Holds.{all_pages}, Layout.{pages_of}, Records.{records_from, record_count, record_size}}
+use Rattle.host_memory.specs.Records.{calls_in}
 use Rattle.host_memory.proofs.FreshMemory.{whole_arena}
 
 -- where the first kind is 0 there is no record

@@ -1,33 +1,24 @@
 -- The parts of a new memory: most are zeros, the vectors lead to the host, and the list of DOS memory has one entry.
 use Rattle.std.proofs.Common.{◌≡◌, ℕ, ◌+◌, ◌-◌, ◌*◌, ◌%◌, ◌<◌, ◌≤◌, ◌⊎◌, inl, inr, zero, suc, List, length, slice_index, None, refl, ap}
-use Rattle.std.proofs.Common.{◌∙◌, sym, arith, zero-add}
-use Rattle.std.proofs.lemmas.Bool.{cases_lt}
-use Rattle.std.proofs.lemmas.List.{get_or_past}
-use Rattle.client_world.specs.declared.limits.TheConstants.{EXCEPTION_VECTORS, INTERRUPT_VECTORS}
-use Rattle.client_world.specs.declared.segments.FarPtr.{FarPtr}
+use Rattle.std.proofs.{Common.{◌∙◌, sym, arith, zero-add}, lemmas.Bool.{cases_lt}, lemmas.List.{get_or_past}}
+use Rattle.client_world.specs.{declared.limits.TheConstants.{EXCEPTION_VECTORS, INTERRUPT_VECTORS}, declared.segments.FarPtr.{FarPtr}}
 use Rattle.client_world.specs.declared.host_frames.TheConstants.{PAGE_SIZE, BLOCK_TABLES, DESCRIPTOR_ROWS, VECTORS, RECORDS, BLOCK_ROWS}
 use Rattle.client_world.specs.declared.host_frames.TheConstants.{LOCK_COUNTS, DOS_LIST, TAKEN_FRAMES, BLOCK_ROW_FRAMES, BLOCK_ROW_SIZE}
 use Rattle.client_world.specs.declared.host_frames.TheConstants.{BLOCK_TABLE_FRAMES, DESCRIPTOR_ROW_FRAMES, DOS_LIST_FRAMES}
 use Rattle.client_world.specs.declared.host_frames.TheConstants.{LOCK_COUNT_FRAMES, LOCK_COUNT_SIZE, PAGE_ENTRY_SIZE, RECORD_FRAMES}
 use Rattle.client_world.specs.declared.host_frames.TheConstants.{TAKEN_BYTE_FRAMES, VECTOR_FRAMES, VECTOR_SIZE, CALLBACK_SIZE}
-use Rattle.client_world.specs.declared.host_frames.TheConstants.{DESCRIPTOR_ROW_SIZE}
-use Rattle.client_world.specs.declared.selectors.TheConstants.{HOST_CODE}
+use Rattle.client_world.specs.{declared.host_frames.TheConstants.{DESCRIPTOR_ROW_SIZE}, declared.selectors.TheConstants.{HOST_CODE}}
 use Rattle.client_world.specs.Selector.{selector_of}
-use Rattle.guest_ram.specs.Bytes.{dword, dword_bytes, region, word_of}
-use Rattle.guest_ram.specs.Listed.{zeros}
-use Rattle.guest_ram.proofs.PutLaws.{length-region, at_region}
-use Rattle.guest_ram.proofs.ListedLaws.{at_zeros}
+use Rattle.guest_ram.specs.{Bytes.{dword, dword_bytes, region, word_of}, Listed.{zeros}}
+use Rattle.guest_ram.proofs.{PutLaws.{length-region, at_region}, ListedLaws.{at_zeros}}
 use Rattle.page_tables.proofs.BlankTables.{dword_zero}
 use Rattle.desc_table.specs.Rows.{row_at, row_bytes}
 use Rattle.desc_table.proofs.RowLaws.{same_row, row_at-row_bytes}
-use Rattle.host_memory.specs.declared.blank.TheConstants.{VECTOR_HALVES}
-use Rattle.host_memory.specs.DosList.{entry_bytes, entry_size}
-use Rattle.host_memory.specs.Filling.{vector_half_at}
+use Rattle.host_memory.specs.{declared.blank.TheConstants.{VECTOR_HALVES}, DosList.{entry_bytes, entry_size}, Filling.{vector_half_at}}
 use Rattle.host_memory.specs.Layout.{tables_part, rows_part, vectors_part, records_part, handles_part, locks_part, arena_part, taken_part}
-use Rattle.host_memory.specs.Layout.{entry_of, pages_of, lock_of}
-use Rattle.host_memory.specs.Vectors.{pointer_at, vector_bytes, callback_at, callback_bytes, callbacks_start, head_start, head_end}
-use Rattle.host_memory.proofs.Filling.{dword_is}
-use Rattle.host_memory.proofs.FreshMemory.{IsBlank, whole_arena}
+use Rattle.host_memory.specs.{Layout.{entry_of, pages_of, lock_of}, Vectors.{pointer_at, vector_bytes, callback_at, callback_bytes}}
+use Rattle.host_memory.specs.Vectors.{callbacks_start, head_start, head_end}
+use Rattle.host_memory.proofs.{Filling.{dword_is}, FreshMemory.{IsBlank, whole_arena}}
 
 -- a part in which all bytes are zero reads as zero everywhere
 zero_part : (b : List ℕ) (from n : ℕ) → from + n ≤ length b → ((at : ℕ) → from ≤ at → at < from + n → slice_index b at ≡ 0) →

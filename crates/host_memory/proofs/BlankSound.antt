@@ -1,26 +1,18 @@
 -- The world of a new machine is sound.
 use Rattle.std.proofs.Common.{◌≡◌, ℕ, ◌+◌, ◌-◌, ◌<◌, ◌≤◌, ◌⊎◌, inl, inr, zero, suc, true, false, List, [], ◌∷◌, length, slice_index}
 use Rattle.std.proofs.Common.{slice_get, get_or, None, Some, nat_eq, if◌then◌else◌, refl, ap, ◌∙◌, subst, arith, lit<, lit≤}
-use Rattle.std.proofs.lemmas.Bool.{cases_lt}
-use Rattle.std.proofs.lemmas.List.{get_or_past}
+use Rattle.std.proofs.{lemmas.Bool.{cases_lt}, lemmas.List.{get_or_past}}
 use Rattle.std.specs.declared.option.Option.{Option}
-use Rattle.client_world.specs.declared.descriptors.Origin.{Origin}
-use Rattle.client_world.specs.declared.dos_memory.DosEntry.{DosEntry}
-use Rattle.client_world.specs.declared.host_frames.TheConstants.{DESCRIPTORS}
-use Rattle.client_world.specs.declared.limits.TheConstants.{MAX_BLOCKS, CALLBACKS, INTERRUPT_VECTORS, EXCEPTION_VECTORS}
+use Rattle.client_world.specs.{declared.descriptors.Origin.{Origin}, declared.dos_memory.DosEntry.{DosEntry}}
+use Rattle.client_world.specs.{declared.host_frames.TheConstants.{DESCRIPTORS}, declared.limits.TheConstants.{MAX_BLOCKS, CALLBACKS}}
+use Rattle.client_world.specs.declared.limits.TheConstants.{INTERRUPT_VECTORS, EXCEPTION_VECTORS}
 use Rattle.client_world.specs.declared.memory_map.TheConstants.{DOS_SIZE, DOS_VIEW_PAGES}
-use Rattle.client_world.specs.declared.traps.TheConstants.{PROTECTED_VECTOR_TRAPS, EXCEPTION_TRAPS}
-use Rattle.client_world.specs.DosMemory.{IsArena, is_dpmi}
-use Rattle.client_world.specs.Selector.{Row, row_at_index}
-use Rattle.client_world.specs.World.{MemoryBlock, block_at}
-use Rattle.client_world.specs.Soundness.{IsSound, SoundMegabyte, SoundBlocks, SoundDescriptors, SoundRuns, HasOrigin, pages_of_block}
-use Rattle.client_world.specs.Soundness.{pages_of_blocks}
-use Rattle.guest_ram.specs.Bytes.{put}
-use Rattle.guest_ram.specs.Listed.{listed}
-use Rattle.guest_ram.proofs.PutLaws.{length-put, put_away, put_within}
-use Rattle.guest_ram.proofs.ListedLaws.{length-listed, at_listed}
-use Rattle.host_memory.specs.Blank.{plain_byte, blank_arena, blank_megabyte, blank_world, host_pointer}
-use Rattle.host_memory.specs.Headers.{dos_header}
+use Rattle.client_world.specs.{declared.traps.TheConstants.{PROTECTED_VECTOR_TRAPS, EXCEPTION_TRAPS}, DosMemory.{IsArena, is_dpmi}}
+use Rattle.client_world.specs.{Selector.{Row, row_at_index}, World.{MemoryBlock, block_at}, Soundness.{IsSound, SoundMegabyte, SoundBlocks}}
+use Rattle.client_world.specs.Soundness.{SoundDescriptors, SoundRuns, HasOrigin, pages_of_block, pages_of_blocks}
+use Rattle.guest_ram.specs.{Bytes.{put}, Listed.{listed}}
+use Rattle.guest_ram.proofs.{PutLaws.{length-put, put_away, put_within}, ListedLaws.{length-listed, at_listed}}
+use Rattle.host_memory.specs.{Blank.{plain_byte, blank_arena, blank_megabyte, blank_world, host_pointer}, Headers.{dos_header}}
 use Rattle.host_memory.proofs.FreshMemory.{whole_arena, plain_vector, plain_zero, plain_rom}
 
 -- a list of nothing

@@ -2,16 +2,12 @@
 -- byte of one block.
 use Rattle.std.proofs.Common.{◌≡◌, ◌≢◌, ℕ, suc, ◌+◌, ◌-◌, ◌*◌, ◌/◌, ◌<◌, ◌⊎◌, List, length, slice_set, arith, get_or-set_same}
 use Rattle.std.proofs.Common.{get_or-set_other}
-use Rattle.client_world.specs.declared.host_frames.TheConstants.{PAGE_SIZE, BUDGET_FRAMES}
-use Rattle.client_world.specs.declared.limits.TheConstants.{MAX_BLOCKS}
-use Rattle.client_world.specs.declared.memory_map.TheConstants.{BLOCK_REGION_PAGES}
-use Rattle.client_world.specs.Access.{with_block_byte}
-use Rattle.client_world.specs.World.{block_at, with_block_at}
+use Rattle.client_world.specs.{declared.host_frames.TheConstants.{PAGE_SIZE, BUDGET_FRAMES}, declared.limits.TheConstants.{MAX_BLOCKS}}
+use Rattle.client_world.specs.{declared.memory_map.TheConstants.{BLOCK_REGION_PAGES}, Access.{with_block_byte}, World.{block_at}}
+use Rattle.client_world.specs.World.{with_block_at}
 use Rattle.guest_ram.proofs.ListedLaws.{same_listed, listed-set}
-use Rattle.host_memory.specs.Layout.{entry_of, pages_of, first_page_of, held_block, blocks_in}
-use Rattle.host_memory.specs.Tables.{HasBlockEntries, NamesBudgetFrame}
-use Rattle.host_memory.proofs.ByteLaw.{spot}
-use Rattle.host_memory.proofs.BlockRows.{HasRanges, row_there, row_free, block_at_row}
+use Rattle.host_memory.specs.{Layout.{entry_of, pages_of, first_page_of, held_block, blocks_in}, Tables.{HasBlockEntries, NamesBudgetFrame}}
+use Rattle.host_memory.proofs.{ByteLaw.{spot}, BlockRows.{HasRanges, row_there, row_free, block_at_row}}
 
 -- a byte of the block of a handle less 1
 pub record IsBlockByte (handles : List ℕ) (place at : ℕ) : Type 0 where

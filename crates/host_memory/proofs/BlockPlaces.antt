@@ -1,11 +1,8 @@
 -- Which block a search of the list finds at a linear address.
 use Rattle.std.proofs.Common.{◌≡◌, ℕ, ◌+◌, ◌-◌, ◌<◌, ◌⊎◌, inl, inr, zero, suc, true, false, List, [], ◌∷◌, None, Some, length, get_or, refl}
-use Rattle.std.proofs.Common.{ap, ◌∙◌, sym, arith, add-zero}
-use Rattle.std.proofs.lemmas.Bool.{cases_Bool}
+use Rattle.std.proofs.{Common.{ap, ◌∙◌, sym, arith, add-zero}, lemmas.Bool.{cases_Bool}}
 use Rattle.std.specs.declared.option.Option.{Option}
-use Rattle.client_world.specs.declared.place.Place.TheVariants.{Block, Nothing}
-use Rattle.client_world.specs.Access.{block_place, covers}
-use Rattle.client_world.specs.World.{MemoryBlock}
+use Rattle.client_world.specs.{declared.place.Place.TheVariants.{Block, Nothing}, Access.{block_place, covers}, World.{MemoryBlock}}
 
 -- a block of the list covers the address, and the search from a handle on finds it
 pub record FindsBlock (blocks : List (Option MemoryBlock)) (handle lin : ℕ) : Type 0 where

@@ -1,16 +1,11 @@
 -- The rows of the memory blocks and the blocks of the world that they give; what is at a linear address of the block region.
 use Rattle.std.proofs.Common.{◌≡◌, ◌≢◌, ℕ, zero, suc, ◌+◌, ◌-◌, ◌*◌, ◌%◌, ◌<◌, ◌≤◌, ◌⊎◌, inl, inr, true, nat_lt, nat_le, List, length}
-use Rattle.std.proofs.Common.{slice_index, None, Some, refl, ◌∙◌, sym, arith}
-use Rattle.std.proofs.lemmas.List.{get_or_past}
-use Rattle.std.proofs.lemmas.Bool.{lt-ltb, le-ltb, le-leb, eq-eqb, ne_eqb, cases_lt, ltb-true, leb-true, and_parts, and_from, false≢true}
-use Rattle.std.specs.declared.option.Option.{Option}
-use Rattle.client_world.specs.declared.place.Place.TheVariants.{Block, Nothing}
-use Rattle.client_world.specs.declared.host_frames.TheConstants.{PAGE_SIZE}
-use Rattle.client_world.specs.declared.limits.TheConstants.{MAX_BLOCKS}
-use Rattle.client_world.specs.declared.memory_map.TheConstants.{BLOCK_REGION, BLOCK_REGION_END}
-use Rattle.client_world.specs.Access.{place_in, block_place, covers}
-use Rattle.client_world.specs.Soundness.{SoundBlocks}
-use Rattle.client_world.specs.World.{MemoryBlock, block_at}
+use Rattle.std.proofs.{Common.{slice_index, None, Some, refl, ◌∙◌, sym, arith}, lemmas.List.{get_or_past}, lemmas.Bool.{lt-ltb, le-leb}}
+use Rattle.std.proofs.lemmas.Bool.{eq-eqb, ne_eqb, cases_lt, ltb-true, leb-true, and_parts, and_from, false≢true}
+use Rattle.client_world.specs.{declared.place.Place.TheVariants.{Block, Nothing}, declared.host_frames.TheConstants.{PAGE_SIZE}}
+use Rattle.client_world.specs.{declared.limits.TheConstants.{MAX_BLOCKS}, declared.memory_map.TheConstants.{BLOCK_REGION, BLOCK_REGION_END}}
+use Rattle.client_world.specs.{Access.{place_in, covers}, Soundness.{SoundBlocks}, World.{MemoryBlock, block_at}}
+use Rattle.client_world.proofs.PlaceLaws.{place-block}
 use Rattle.guest_ram.proofs.ListedLaws.{length-listed, at_listed}
 use Rattle.host_memory.specs.Layout.{base_of, pages_of, first_page_of, lock_of, page_byte, held_block, block_in, blocks_in}
 use Rattle.host_memory.proofs.BlockPlaces.{search_tells, FindsBlock, FindsNothing}
@@ -167,12 +162,6 @@ pub record InNoBlock (handles tables locks budget : List ℕ) (lin : ℕ) : Type
   pub none : (place : ℕ) → InRow handles place lin → ⊥
   pub answer : place_in (blocks_in handles tables locks budget) lin ≡ Nothing
 
--- in the block region the list of blocks decides
-pub place_in_region : (blocks : List (Option MemoryBlock)) (lin : ℕ) → BLOCK_REGION ≤ lin → lin < BLOCK_REGION_END →
-    place_in blocks lin ≡ block_place blocks 1 lin
-unfolding place_in
-place_in_region blocks lin from to = grind (arith, le-leb, le-ltb, lt-ltb)
-
 found_row : (handles tables locks budget : List ℕ) (lin : ℕ) → BLOCK_REGION ≤ lin → lin < BLOCK_REGION_END →
     FindsBlock (blocks_in handles tables locks budget) 1 lin → InBlock handles tables locks budget lin
 found_row handles tables locks budget lin from to found =
@@ -191,7 +180,7 @@ found_row handles tables locks budget lin from to found =
       some = omega arith;
       offset = omega arith;
       inside = omega arith;
-      answer = grind (arith, place_in_region);
+      answer = grind (arith, place-block);
     }
 
 missed_rows : (handles tables locks budget : List ℕ) (lin : ℕ) → FindsNothing (blocks_in handles tables locks budget) 1 lin →
@@ -212,4 +201,4 @@ missed_rows handles tables locks budget lin missed place row =
 -- what is at a linear address of the block region: a byte of a block, or nothing
 pub over_tells : (handles tables locks budget : List ℕ) (lin : ℕ) → BLOCK_REGION ≤ lin → lin < BLOCK_REGION_END →
     InBlock handles tables locks budget lin ⊎ InNoBlock handles tables locks budget lin
-over_tells handles tables locks budget lin from to = grind (arith, found_row, missed_rows, place_in_region, search_tells)
+over_tells handles tables locks budget lin from to = grind (arith, found_row, missed_rows, place-block, search_tells)

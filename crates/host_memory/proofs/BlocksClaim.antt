@@ -4,20 +4,17 @@ use Rattle.std.proofs.Common.{arith, add-zero}
 use Rattle.std.specs.declared.option.Option.{Option}
 use Rattle.client_world.specs.declared.host_frames.TheConstants.{PAGE_SIZE, BLOCK_ROWS, LOCK_COUNTS, BUDGET_FRAMES, BLOCK_ROW_FRAMES}
 use Rattle.client_world.specs.declared.host_frames.TheConstants.{BLOCK_ROW_SIZE, LOCK_COUNT_FRAMES, LOCK_COUNT_SIZE}
-use Rattle.client_world.specs.declared.limits.TheConstants.{MAX_BLOCKS}
-use Rattle.client_world.specs.Soundness.{pages_of_block}
-use Rattle.client_world.specs.World.{World, MemoryBlock, block_at, base_of_block}
+use Rattle.client_world.specs.{declared.limits.TheConstants.{MAX_BLOCKS}, Soundness.{pages_of_block}, World.{World, MemoryBlock, block_at}}
+use Rattle.client_world.specs.World.{base_of_block}
 use Rattle.guest_ram.specs.Bytes.{dword, word_of}
 use Rattle.guest_ram.proofs.PutLaws.{at_region}
-use Rattle.host_memory.specs.Holds.{Holds}
-use Rattle.host_memory.specs.HoldsWorld.{HoldsBlocks, IsBlockRow, block_entry, block_page, frame_place}
+use Rattle.host_memory.specs.{Holds.{Holds}, HoldsWorld.{HoldsBlocks, IsBlockRow, block_entry, block_page, frame_place}}
 use Rattle.host_memory.specs.Layout.{tables_part, handles_part, locks_part, budget_part, base_of, pages_of, first_page_of, entry_of}
 use Rattle.host_memory.specs.Layout.{blocks_in}
-use Rattle.host_memory.proofs.BlockBytes.{IsBlockByte, page_inside, page_small, byte_frame, spot_small}
-use Rattle.host_memory.proofs.BlockRows.{HasRanges, held_base, held_byte, held_lock, length-held_locks, block_there, block_free}
-use Rattle.host_memory.proofs.ByteLaw.{spot}
-use Rattle.host_memory.proofs.PartBytes.{part_byte, part_word, part_dword}
-use Rattle.host_memory.proofs.TablesClaim.{HasBlocks, row_of_block, page_of_row, entry_is, outside_rows}
+use Rattle.host_memory.proofs.{BlockBytes.{IsBlockByte, page_inside, page_small, byte_frame, spot_small}, BlockRows.{HasRanges, held_base}}
+use Rattle.host_memory.proofs.{BlockRows.{held_byte, held_lock, length-held_locks, block_there, block_free}, ByteLaw.{spot}}
+use Rattle.host_memory.proofs.{PartBytes.{part_byte, part_word, part_dword}, TablesClaim.{HasBlocks, row_of_block, page_of_row, entry_is}}
+use Rattle.host_memory.proofs.TablesClaim.{outside_rows}
 
 -- the byte at an offset in the frame that a page entry names
 abbrev pub frame_byte : List ℕ → ℕ → ℕ → ℕ

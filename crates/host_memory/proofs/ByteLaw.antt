@@ -1,26 +1,17 @@
 -- The world's byte at a place that the client may touch is at the place's address, outside of the host's frames.
 use Rattle.std.proofs.Common.{◌≡◌, ℕ, suc, ◌+◌, ◌-◌, ◌*◌, ◌/◌, ◌%◌, ◌<◌, ◌⊎◌, inl, inr, Bool, true, false, List, slice_index, ap, ◌∙◌, sym}
-use Rattle.std.proofs.Common.{arith, zero-add}
-use Rattle.std.proofs.lemmas.Bool.{false≢true}
+use Rattle.std.proofs.{Common.{arith, zero-add}, lemmas.Bool.{false≢true}}
 use Rattle.std.specs.declared.option.Option.{Option}
-use Rattle.client_world.specs.declared.registers.Mode.{Mode}
-use Rattle.client_world.specs.declared.registers.Regs.{Regs}
-use Rattle.client_world.specs.declared.registers.Width.{Width}
-use Rattle.client_world.specs.declared.place.Place.{Place}
-use Rattle.client_world.specs.declared.place.Place.TheVariants.{Dos, Block}
-use Rattle.client_world.specs.declared.host_frames.TheConstants.{PAGE_SIZE, BUDGET_FRAMES}
-use Rattle.client_world.specs.declared.limits.TheConstants.{MAX_BLOCKS}
-use Rattle.client_world.specs.declared.memory_map.TheConstants.{DOS_SIZE}
-use Rattle.client_world.specs.Access.{place_in, place_of, may_touch, byte_of}
-use Rattle.client_world.specs.World.{World, MemoryBlock}
+use Rattle.client_world.specs.{declared.registers.Mode.{Mode}, declared.registers.Regs.{Regs}, declared.registers.Width.{Width}}
+use Rattle.client_world.specs.{declared.place.Place.{Place}, declared.place.Place.TheVariants.{Dos, Block}}
+use Rattle.client_world.specs.{declared.host_frames.TheConstants.{PAGE_SIZE, BUDGET_FRAMES}, declared.limits.TheConstants.{MAX_BLOCKS}}
+use Rattle.client_world.specs.{declared.memory_map.TheConstants.{DOS_SIZE}, Access.{place_in, place_of, may_touch, byte_of}, World.{World}}
+use Rattle.client_world.specs.World.{MemoryBlock}
+use Rattle.client_world.proofs.PlaceLaws.{place-above, place-dos, place-gap, place-gap_above_blocks, place-host}
 use Rattle.guest_ram.proofs.PutLaws.{at_region}
-use Rattle.host_memory.specs.Holds.{Holds}
-use Rattle.host_memory.specs.Law.{StandsAt}
-use Rattle.host_memory.specs.Layout.{world_of, address_of, tables_part, handles_part, locks_part, budget_part, pages_of, first_page_of}
-use Rattle.host_memory.specs.Layout.{entry_of}
-use Rattle.host_memory.proofs.BlockRows.{InBlock, InNoBlock, over_tells, block_there, held_byte}
-use Rattle.host_memory.proofs.PlaceRanges.{place_in_view, place_in_gap, place_below_window, place_in_window, place_above_window}
-use Rattle.host_memory.proofs.PlaceRanges.{block_address_is}
+use Rattle.host_memory.specs.{Holds.{Holds}, Law.{StandsAt}, Layout.{world_of, address_of, tables_part, handles_part, locks_part}}
+use Rattle.host_memory.specs.Layout.{budget_part, pages_of, first_page_of, entry_of}
+use Rattle.host_memory.proofs.{BlockRows.{InBlock, InNoBlock, over_tells, block_there, held_byte}, PlaceEnds.{block_address_is}}
 use Rattle.host_memory.proofs.WorldParts.{dos_is, blocks_is}
 
 -- the address of a byte of a block, counted from the budget frames
@@ -92,11 +83,11 @@ byte_agrees b budget holds mode regs vif width lin write may =
       dos_stands,
       forbidden,
       over_tells,
-      place_above_window,
-      place_below_window,
-      place_in_gap,
-      place_in_view,
-      place_in_window,
+      place-above,
+      place-gap_above_blocks,
+      place-gap,
+      place-dos,
+      place-host,
       region_byte,
       stands_by,
     )

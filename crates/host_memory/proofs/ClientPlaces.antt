@@ -1,22 +1,12 @@
 -- The places that the client may write, and where they lie in the memory.
 use Rattle.std.proofs.Common.{◌≡◌, ℕ, suc, ◌*◌, ◌<◌, ◌≤◌, ◌⊎◌, inl, inr, Bool, true, List, length, refl, ap, ◌∙◌, sym, subst, arith, Option}
-use Rattle.std.proofs.Common.{Some, None}
-use Rattle.std.proofs.lemmas.Bool.{ltb-true}
-use Rattle.client_world.specs.declared.registers.Mode.{Mode}
-use Rattle.client_world.specs.declared.registers.Regs.{Regs}
-use Rattle.client_world.specs.declared.registers.Width.{Width}
-use Rattle.client_world.specs.declared.place.Place.{Place}
-use Rattle.client_world.specs.declared.place.Place.TheVariants.{Dos, Block, Host, Nothing}
-use Rattle.client_world.specs.declared.host_frames.TheConstants.{PAGE_SIZE, BUDGET_FRAMES}
-use Rattle.client_world.specs.declared.memory_map.TheConstants.{ROM_START}
-use Rattle.client_world.specs.Access.{may_touch, HasByte, IsHeld}
-use Rattle.client_world.specs.Soundness.{SoundBlocks}
-use Rattle.client_world.specs.World.{World, MemoryBlock, block_at}
-use Rattle.host_memory.specs.Layout.{world_of, address_of, handles_part, tables_part, locks_part, budget_part, blocks_in}
-use Rattle.host_memory.specs.Holds.{Holds}
-use Rattle.host_memory.proofs.WorldParts.{blocks_is}
-use Rattle.host_memory.proofs.BlockRows.{HasRanges, ranges, held_row}
-use Rattle.host_memory.proofs.BlockBytes.{IsBlockByte}
+use Rattle.std.proofs.{Common.{Some, None}, lemmas.Bool.{ltb-true}}
+use Rattle.client_world.specs.{declared.registers.Mode.{Mode}, declared.registers.Regs.{Regs}, declared.registers.Width.{Width}}
+use Rattle.client_world.specs.{declared.place.Place.{Place}, declared.place.Place.TheVariants.{Dos, Block, Host, Nothing}}
+use Rattle.client_world.specs.{declared.host_frames.TheConstants.{PAGE_SIZE, BUDGET_FRAMES}, declared.memory_map.TheConstants.{ROM_START}}
+use Rattle.client_world.specs.{Access.{may_touch, HasByte, IsHeld}, Soundness.{SoundBlocks}, World.{World, MemoryBlock, block_at}}
+use Rattle.host_memory.specs.{Layout.{world_of, address_of, handles_part, tables_part, locks_part, budget_part, blocks_in}, Holds.{Holds}}
+use Rattle.host_memory.proofs.{WorldParts.{blocks_is}, BlockRows.{HasRanges, ranges, held_row}, BlockBytes.{IsBlockByte}}
 use Rattle.host_memory.proofs.ByteLaw.{block_spot}
 
 -- the place is a byte of the megabyte, below its read-only part or below a bound

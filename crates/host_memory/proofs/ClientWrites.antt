@@ -1,34 +1,27 @@
 -- A byte that the client may write, put where its place is, is that byte in the world, and in nothing else: the memory still holds a
 -- world, the host's frames keep their bytes and places their addresses.
 use Rattle.std.proofs.Common.{◌≡◌, ◌≢◌, ℕ, suc, ◌+◌, ◌-◌, ◌*◌, ◌<◌, ◌≤◌, inl, inr, Bool, true, List, [], ◌∷◌, length, slice_index}
-use Rattle.std.proofs.Common.{slice_set, refl, ap, arith, Option, get_or-set_other}
-use Rattle.client_world.specs.declared.registers.Mode.{Mode}
-use Rattle.client_world.specs.declared.registers.Regs.{Regs}
-use Rattle.client_world.specs.declared.registers.Width.{Width}
-use Rattle.client_world.specs.declared.place.Place.{Place}
-use Rattle.client_world.specs.declared.place.Place.TheVariants.{Block}
-use Rattle.client_world.specs.declared.host_frames.TheConstants.{PAGE_SIZE, BUDGET_FRAMES}
-use Rattle.client_world.specs.declared.memory_map.TheConstants.{DOS_SIZE, ROM_START}
-use Rattle.client_world.specs.Access.{may_touch, with_byte_of, IsHeld}
-use Rattle.client_world.specs.Soundness.{SoundBlocks}
-use Rattle.client_world.specs.World.{MemoryBlock}
+use Rattle.std.proofs.Common.{slice_set, refl, ap, ◌∙◌, arith, Option, get_or-set_other}
+use Rattle.client_world.specs.{declared.registers.Mode.{Mode}, declared.registers.Regs.{Regs}, declared.registers.Width.{Width}}
+use Rattle.client_world.specs.{declared.place.Place.{Place}, declared.place.Place.TheVariants.{Block}}
+use Rattle.client_world.specs.{declared.host_frames.TheConstants.{PAGE_SIZE, BUDGET_FRAMES}, declared.memory_map.TheConstants.{DOS_SIZE}}
+use Rattle.client_world.specs.{declared.memory_map.TheConstants.{ROM_START}, Access.{may_touch, with_byte_of, IsHeld}}
+use Rattle.client_world.specs.{Soundness.{SoundBlocks}, World.{MemoryBlock}}
 use Rattle.guest_ram.specs.Bytes.{put}
 use Rattle.guest_ram.proofs.PutLaws.{length-region}
 use Rattle.page_tables.proofs.FreeWrites.{dword_set_other}
 use Rattle.host_memory.specs.Layout.{world_of, address_of, dos_part, handles_part, tables_part, locks_part, budget_part, taken_part}
-use Rattle.host_memory.specs.Layout.{first_page_of, blocks_in}
-use Rattle.host_memory.specs.Holds.{Holds}
-use Rattle.host_memory.specs.Tables.{IsIdle, next_frame}
-use Rattle.host_memory.proofs.Parts.{MemoryParts, parts_of, world_by, holds_by, holds_parts, holds_with_dos, holds_with_frames}
-use Rattle.host_memory.proofs.Parts.{addresses_by}
-use Rattle.host_memory.proofs.PutParts.{put_dos, put_frames, size_put}
-use Rattle.host_memory.proofs.BlockRows.{HasRanges}
-use Rattle.host_memory.proofs.BlockBytes.{IsBlockByte, spot_small, blocks_written}
-use Rattle.host_memory.proofs.ByteLaw.{spot, block_spot}
-use Rattle.host_memory.proofs.IdleFrames.{spot_away}
+use Rattle.host_memory.specs.{Layout.{first_page_of, blocks_in}, Holds.{Holds}, Tables.{IsIdle, next_frame}}
+use Rattle.host_memory.proofs.Parts.{HasParts, addresses_of, holds_by, holds_parts, holds_with_dos, holds_with_frames, own_parts, parts_of}
+use Rattle.host_memory.proofs.{Parts.{world_by}, PutParts.{Dos, Frames, put_part}, BlockRows.{HasRanges}, BlockBytes.{IsBlockByte}}
+use Rattle.host_memory.proofs.{BlockBytes.{spot_small, blocks_written}, ByteLaw.{spot, block_spot}, IdleFrames.{spot_away}}
 use Rattle.host_memory.proofs.ClientPlaces.{IsWritable, writable, ranges_of, address_dos, address_outside}
 
 -- a run of bytes in the megabyte
+
+dos_has : (b : List ℕ) (budget : ℕ) → Holds b budget → (at : ℕ) (xs : List ℕ) → at + length xs ≤ DOS_SIZE →
+    HasParts (put b at xs) budget (record (parts_of b budget) { dos = put (dos_part b) at xs })
+dos_has b budget holds at xs room = put_part Dos b budget (parts_of b budget) at at xs (own_parts b budget holds) (omega arith) room
 
 pub dos_world : (b : List ℕ) (budget : ℕ) → Holds b budget →
     (mode : Mode) (regs : Regs) (vif : Bool) (width : Option Width) (at : ℕ) (xs : List ℕ) →
@@ -37,23 +30,23 @@ pub dos_world : (b : List ℕ) (budget : ℕ) → Holds b budget →
     ≡ record (world_of b budget mode regs vif width) { dos = put (world_of b budget mode regs vif width).dos at xs }
 unfolding world_of
 dos_world b budget holds mode regs vif width at xs room =
-    world_by (put b at xs) budget (record (parts_of b budget) { dos = put (dos_part b) at xs })
-    (put_dos b budget at at xs holds.size refl room) mode regs vif width
+    world_by (put b at xs) budget _ (dos_has b budget holds at xs room) mode regs vif width
 
 pub dos_holds : (b : List ℕ) (budget : ℕ) → Holds b budget → (at : ℕ) (xs : List ℕ) → at + length xs ≤ DOS_SIZE → Holds (put b at xs) budget
-dos_holds b budget holds at xs room =
-    holds_by (put b at xs) budget (record (parts_of b budget) { dos = put (dos_part b) at xs })
-    (put_dos b budget at at xs holds.size refl room)
-    (size_put b budget at xs holds.size) holds.most
+dos_holds b budget holds at xs room = holds_by (put b at xs) budget _ (dos_has b budget holds at xs room) holds.most
     (holds_with_dos (parts_of b budget) budget (put (dos_part b) at xs) (holds_parts b budget holds))
 
 pub dos_addresses : (b : List ℕ) (budget : ℕ) → Holds b budget → (at : ℕ) (xs : List ℕ) → at + length xs ≤ DOS_SIZE → (place : Place) →
     address_of (put b at xs) place ≡ address_of b place
-dos_addresses b budget holds at xs room =
-    let e = put_dos b budget at at xs holds.size refl room in
-    addresses_by b (put b at xs) (ap (λ (p : MemoryParts). p.handles) e) (ap (λ (p : MemoryParts). p.tables) e)
+dos_addresses b budget holds at xs room = addresses_of b (put b at xs) budget _ (dos_has b budget holds at xs room) refl refl
 
 -- a run of bytes in the budget frames. Which blocks it changes, the caller says
+
+frames_has : (b : List ℕ) (budget : ℕ) → Holds b budget → (address at : ℕ) (xs : List ℕ) →
+    address ≡ PAGE_SIZE * BUDGET_FRAMES + at → at + length xs ≤ PAGE_SIZE * budget →
+    HasParts (put b address xs) budget (record (parts_of b budget) { frames = put (budget_part b budget) at xs })
+frames_has b budget holds address at xs e room =
+    put_part Frames b budget (parts_of b budget) address at xs (own_parts b budget holds) (omega (arith, e)) room
 
 pub frames_world : (b : List ℕ) (budget : ℕ) → Holds b budget →
     (mode : Mode) (regs : Regs) (vif : Bool) (width : Option Width) (address at : ℕ) (xs : List ℕ) →
@@ -61,24 +54,23 @@ pub frames_world : (b : List ℕ) (budget : ℕ) → Holds b budget →
     blocks_in (handles_part b) (tables_part b) (locks_part b) (put (budget_part b budget) at xs) ≡ blocks →
     world_of (put b address xs) budget mode regs vif width ≡ record (world_of b budget mode regs vif width) { blocks = blocks }
 unfolding world_of
-frames_world b budget holds mode regs vif width address at xs e room blocks is = grind (arith, put_frames, world_by)
+frames_world b budget holds mode regs vif width address at xs e room blocks is =
+    world_by (put b address xs) budget _ (frames_has b budget holds address at xs e room) mode regs vif width
+    ∙ ap (λ (bs : List (Option MemoryBlock)). record (world_of b budget mode regs vif width) { blocks = bs }) is
 
 pub frames_holds : (b : List ℕ) (budget : ℕ) → Holds b budget → (address at : ℕ) (xs : List ℕ) →
     address ≡ PAGE_SIZE * BUDGET_FRAMES + at → at + length xs ≤ PAGE_SIZE * budget →
     ((frame : ℕ) → IsIdle (taken_part b) budget frame →
     next_frame (put (budget_part b budget) at xs) frame ≡ next_frame (budget_part b budget) frame) → Holds (put b address xs) budget
 frames_holds b budget holds address at xs e room idle =
-    holds_by (put b address xs) budget (record (parts_of b budget) { frames = put (budget_part b budget) at xs })
-    (put_frames b budget address at xs holds.size e room)
-    (size_put b budget address xs holds.size) holds.most
+    holds_by (put b address xs) budget _ (frames_has b budget holds address at xs e room) holds.most
     (holds_with_frames (parts_of b budget) budget (put (budget_part b budget) at xs) idle (holds_parts b budget holds))
 
 pub frames_addresses : (b : List ℕ) (budget : ℕ) → Holds b budget → (address at : ℕ) (xs : List ℕ) →
     address ≡ PAGE_SIZE * BUDGET_FRAMES + at → at + length xs ≤ PAGE_SIZE * budget → (place : Place) →
     address_of (put b address xs) place ≡ address_of b place
 frames_addresses b budget holds address at xs e room =
-    let same = put_frames b budget address at xs holds.size e room in
-    addresses_by b (put b address xs) (ap (λ (p : MemoryParts). p.handles) same) (ap (λ (p : MemoryParts). p.tables) same)
+    addresses_of b (put b address xs) budget _ (frames_has b budget holds address at xs e room) refl refl
 
 -- one byte of a block
 

@@ -1,11 +1,8 @@
 -- Where an access ends that meets two entries of the host's tables.
 use Rattle.std.proofs.Common.{◌≡◌, ℕ, ◌+◌, ◌*◌, ◌/◌, ◌%◌, Bool, true, false, nat_eq, refl, ap, ◌∙◌, arith, Ok}
-use Rattle.client_world.specs.Registers.{has_bit}
-use Rattle.client_world.specs.declared.host_frames.TheConstants.{PAGE_SIZE}
-use Rattle.page_tables.specs.Entry.{page_entry}
-use Rattle.page_tables.specs.Walk.{walk_end, fault}
-use Rattle.page_tables.specs.Mapping.{ended_in_frame}
-use Rattle.page_tables.specs.declared.entry.TheConstants.{PRESENT, USER, SUPERVISOR_WRITABLE}
+use Rattle.client_world.specs.{Registers.{has_bit}, declared.host_frames.TheConstants.{PAGE_SIZE}}
+use Rattle.page_tables.specs.{Entry.{page_entry}, Walk.{walk_end, fault}, Mapping.{ended_in_frame}, declared.entry.TheConstants.{PRESENT}}
+use Rattle.page_tables.specs.declared.entry.TheConstants.{USER, SUPERVISOR_WRITABLE}
 use Rattle.page_tables.proofs.EntryLaws.{page_entry_present, page_entry_user, page_entry_writable, ended-page_entry, ended-absent}
 use Rattle.host_memory.specs.Tables.{supervisor_entry}
 

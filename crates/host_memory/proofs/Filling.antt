@@ -2,7 +2,7 @@
 use Rattle.std.proofs.Common.{◌≡◌, ℕ, ◌+◌, ◌*◌, ◌<◌, ◌≤◌, inl, inr, List, length, slice_index, refl, ap, ◌∙◌, sym, arith, below_more}
 use Rattle.std.proofs.Common.{add_assoc, zero-add}
 use Rattle.guest_ram.specs.Bytes.{dword, dword_bytes, put}
-use Rattle.guest_ram.proofs.PutLaws.{length-put, put_away, put_within, same_dword}
+use Rattle.guest_ram.proofs.PutLaws.{dword_back, length-put, put_away, put_within, same_dword}
 use Rattle.host_memory.specs.Filling.{Written}
 
 pub none_written : (f : ℕ → ℕ) (from : ℕ) (b : List ℕ) → Written f from 0 b b
@@ -31,15 +31,11 @@ one_written f from k v place b c w at_place room e = record {
         (λ i below. put_away c place (dword_bytes v) (from + (4 * i + at)) (inr (omega arith)) ∙ w.each i at below small)
         (here at small) j within
 
-back : (v : ℕ) → dword (dword_bytes v) 0 ≡ v
-unfolding dword
-back v = grind arith
-
 -- four bytes that are a doubleword's are that doubleword
 pub dword_is : (b : List ℕ) (p v : ℕ) → ((at : ℕ) → at < 4 → slice_index b (p + at) ≡ slice_index (dword_bytes v) at) → dword b p ≡ v
 dword_is b p v h =
     same_dword b (dword_bytes v) p 0 (λ at small. h at small ∙ ap (λ (k : ℕ). slice_index (dword_bytes v) k) (sym (zero-add at)))
-    ∙ back v
+    ∙ dword_back v
 
 -- a table that was written holds each doubleword
 pub written_dword : (f : ℕ → ℕ) (from count k : ℕ) (b c : List ℕ) → Written f from count b c → k < count → dword c (from + 4 * k) ≡ f k

@@ -6,13 +6,10 @@ use Rattle.client_world.specs.declared.host_frames.TheConstants.{BLOCK_TABLE_FRA
 use Rattle.client_world.specs.declared.memory_map.TheConstants.{BLOCK_REGION, BLOCK_REGION_END, HOST_WINDOW}
 use Rattle.guest_ram.specs.Bytes.{dword}
 use Rattle.guest_ram.proofs.PutLaws.{dword-region}
-use Rattle.page_tables.specs.Entry.{page_entry}
-use Rattle.page_tables.specs.Walk.{walked, walk_end, fault, directory_entry, entry_place, frame_of}
-use Rattle.page_tables.specs.Mapping.{directory_word}
-use Rattle.page_tables.specs.declared.entry.TheConstants.{TABLE_SPAN}
-use Rattle.host_memory.specs.Layout.{fixed_part, tables_part, entry_of}
-use Rattle.host_memory.specs.Tables.{HasFixedEntries, directory_entry_at, low_entry_at, window_entry_at, supervisor_entry, low_table_start}
-use Rattle.host_memory.specs.Tables.{window_table_start}
+use Rattle.page_tables.specs.{Entry.{page_entry}, Walk.{walked, walk_end, fault, directory_entry, entry_place, frame_of}}
+use Rattle.page_tables.specs.{Mapping.{directory_word}, declared.entry.TheConstants.{TABLE_SPAN}}
+use Rattle.host_memory.specs.{Layout.{fixed_part, tables_part, entry_of}, Tables.{HasFixedEntries, directory_entry_at, low_entry_at}}
+use Rattle.host_memory.specs.Tables.{window_entry_at, supervisor_entry, low_table_start, window_table_start}
 use Rattle.host_memory.proofs.EntryEnds.{finds_no_table}
 
 -- the entries of the directory

@@ -1,14 +1,11 @@
 -- The list of free frames in the parts of the memory and in its bytes, and what leaves it.
 use Rattle.std.proofs.Common.{◌≡◌, ℕ, ◌+◌, ◌-◌, ◌*◌, ◌<◌, ◌≤◌, List, length, ap, ◌∙◌, sym, arith}
 use Rattle.client_world.specs.declared.host_frames.TheConstants.{PAGE_SIZE, VECTORS, TAKEN_FRAMES, BUDGET_FRAMES, TAKEN_BYTE_FRAMES}
-use Rattle.client_world.specs.declared.host_frames.TheConstants.{VECTOR_FRAMES}
-use Rattle.client_world.specs.declared.limits.TheConstants.{MAX_PAGES}
+use Rattle.client_world.specs.{declared.host_frames.TheConstants.{VECTOR_FRAMES}, declared.limits.TheConstants.{MAX_PAGES}}
 use Rattle.guest_ram.specs.Bytes.{dword}
 use Rattle.page_tables.specs.FreeList.{HasFreeList, IsFreeFrame, first_free, next_free}
 use Rattle.page_tables.proofs.FreeFrames.{same_free}
-use Rattle.host_memory.specs.Holds.{ListsFreeFrames}
-use Rattle.host_memory.specs.Layout.{budget_part, taken_part, vectors_part}
-use Rattle.host_memory.specs.Tables.{IsIdle, next_frame}
+use Rattle.host_memory.specs.{Holds.{ListsFreeFrames}, Layout.{budget_part, taken_part, vectors_part}, Tables.{IsIdle, next_frame}}
 use Rattle.host_memory.specs.Vectors.{head_start}
 use Rattle.host_memory.proofs.PartBytes.{part_byte, part_dword}
 

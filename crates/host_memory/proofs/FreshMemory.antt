@@ -1,32 +1,22 @@
 -- The writes of a new memory, one after the other, and what they leave: its tables, its megabyte, the list of free frames, and zeros
 -- elsewhere.
 use Rattle.std.proofs.Common.{◌≡◌, ℕ, ◌+◌, ◌-◌, ◌*◌, ◌/◌, ◌%◌, ◌<◌, ◌≤◌, ◌⊎◌, inl, inr, zero, suc, List, length, slice_index, nat_eq}
-use Rattle.std.proofs.Common.{if◌then◌else◌, refl, ap, ◌∙◌, sym, arith, zero-add}
-use Rattle.std.proofs.lemmas.Bool.{cases_lt, lt-ltb, le-ltb}
+use Rattle.std.proofs.{Common.{if◌then◌else◌, refl, ap, ◌∙◌, sym, arith, zero-add}, lemmas.Bool.{cases_lt, lt-ltb, le-ltb}}
 use Rattle.std.proofs.lemmas.Grind.{same_number_lists}
-use Rattle.client_world.specs.declared.dos_memory.DosEntry.{DosEntry}
-use Rattle.client_world.specs.declared.dos_memory.DosState.TheVariants.{Free}
+use Rattle.client_world.specs.{declared.dos_memory.DosEntry.{DosEntry}, declared.dos_memory.DosState.TheVariants.{Free}}
 use Rattle.client_world.specs.declared.host_frames.TheConstants.{PAGE_SIZE, PAGE_DIRECTORY, LOW_TABLE, WINDOW_TABLE, BLOCK_TABLES, VECTORS}
 use Rattle.client_world.specs.declared.host_frames.TheConstants.{DOS_LIST, BUDGET_FRAMES, PAGE_ENTRY_SIZE, TABLE_ENTRIES}
 use Rattle.client_world.specs.declared.limits.TheConstants.{INTERRUPT_VECTORS, MAX_PAGES}
 use Rattle.client_world.specs.declared.memory_map.TheConstants.{PARAGRAPH_SIZE, DOS_SIZE, VECTOR_TABLE_SIZE, ROM_START, ROM_BYTE}
 use Rattle.client_world.specs.declared.memory_map.TheConstants.{ARENA_START, ARENA_END}
-use Rattle.guest_ram.specs.Bytes.{put, region, dword, dword_bytes}
-use Rattle.guest_ram.specs.Listed.{listed, copies}
-use Rattle.guest_ram.specs.declared.ram.TheConstants.{FRAME_SIZE}
-use Rattle.page_tables.specs.FreeList.{HasFreeList}
-use Rattle.page_tables.specs.declared.budget.TheConstants.{FREE_LIST_HEAD}
+use Rattle.guest_ram.specs.{Bytes.{put, region, dword, dword_bytes}, Listed.{listed, copies}, declared.ram.TheConstants.{FRAME_SIZE}}
+use Rattle.page_tables.specs.{FreeList.{HasFreeList}, declared.budget.TheConstants.{FREE_LIST_HEAD}}
 use Rattle.page_tables.proofs.FreeWrites.{same_free_list}
 use Rattle.guest_ram.proofs.PutLaws.{length-put, put_below, put_above, put_within, put_away, length-region, at_region, same_region}
-use Rattle.guest_ram.proofs.PutLaws.{region-put, same_dword}
-use Rattle.guest_ram.proofs.ListedLaws.{length-listed, at_listed, length-copies, at_copies}
-use Rattle.host_memory.specs.declared.blank.TheConstants.{VECTOR_HALVES}
-use Rattle.host_memory.specs.Blank.{plain_byte, vector_byte, blank_megabyte}
-use Rattle.host_memory.specs.DosList.{entry_bytes, entry_size}
-use Rattle.host_memory.specs.Filling.{Written, real_vector_at, vector_half_at}
-use Rattle.host_memory.specs.Headers.{dos_header}
-use Rattle.host_memory.specs.Layout.{dos_part}
-use Rattle.host_memory.specs.Tables.{directory_entry_at, low_entry_at, window_entry_at}
+use Rattle.guest_ram.proofs.{PutLaws.{region-put, same_dword}, ListedLaws.{length-listed, at_listed, length-copies, at_copies}}
+use Rattle.host_memory.specs.{declared.blank.TheConstants.{VECTOR_HALVES}, Blank.{plain_byte, vector_byte, blank_megabyte}}
+use Rattle.host_memory.specs.{DosList.{entry_bytes, entry_size}, Filling.{Written, real_vector_at, vector_half_at}, Headers.{dos_header}}
+use Rattle.host_memory.specs.{Layout.{dos_part}, Tables.{directory_entry_at, low_entry_at, window_entry_at}}
 use Rattle.host_memory.proofs.Filling.{written_dword}
 
 -- the one entry of DOS memory

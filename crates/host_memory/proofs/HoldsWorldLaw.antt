@@ -1,31 +1,20 @@
 -- A memory that holds a sound world has exactly the bytes that the world asks for.
 use Rattle.std.proofs.Common.{◌≡◌, ℕ, ◌+◌, ◌*◌, ◌<◌, ◌≤◌, Bool, List, slice_index, ap, ◌∙◌, sym, subst, arith, zero-add}
 use Rattle.std.specs.declared.option.Option.{Option}
-use Rattle.client_world.specs.declared.registers.Mode.{Mode}
-use Rattle.client_world.specs.declared.registers.Regs.{Regs}
-use Rattle.client_world.specs.declared.registers.Width.{Width}
+use Rattle.client_world.specs.{declared.registers.Mode.{Mode}, declared.registers.Regs.{Regs}, declared.registers.Width.{Width}}
 use Rattle.client_world.specs.declared.host_frames.TheConstants.{PAGE_SIZE, DESCRIPTOR_ROWS, BUDGET_FRAMES, DESCRIPTORS}
 use Rattle.client_world.specs.declared.host_frames.TheConstants.{DESCRIPTOR_ROW_SIZE, DESCRIPTOR_ROW_FRAMES}
-use Rattle.client_world.specs.declared.limits.TheConstants.{MAX_PAGES}
-use Rattle.client_world.specs.declared.memory_map.TheConstants.{DOS_SIZE}
-use Rattle.client_world.specs.Selector.{row_at_index}
-use Rattle.client_world.specs.Soundness.{IsSound, SoundBlocks}
-use Rattle.client_world.specs.World.{World, MemoryBlock}
+use Rattle.client_world.specs.{declared.limits.TheConstants.{MAX_PAGES}, declared.memory_map.TheConstants.{DOS_SIZE}}
+use Rattle.client_world.specs.{Selector.{row_at_index}, Soundness.{IsSound, SoundBlocks}, World.{World, MemoryBlock}}
 use Rattle.guest_ram.proofs.PutLaws.{at_region}
 use Rattle.desc_table.specs.Rows.{row_bytes, rows_from}
 use Rattle.desc_table.proofs.RowLaws.{at_rows_from}
-use Rattle.host_memory.specs.Holds.{Holds}
-use Rattle.host_memory.specs.HoldsWorld.{HoldsWorld, frame_place}
-use Rattle.host_memory.specs.Layout.{world_of, dos_part, rows_part, tables_part, handles_part, locks_part, budget_part, blocks_in}
-use Rattle.host_memory.proofs.BlockRows.{HasRanges, ranges}
-use Rattle.host_memory.proofs.BlocksClaim.{blocks_claim}
-use Rattle.host_memory.proofs.FreeParts.{list_of_parts}
-use Rattle.host_memory.proofs.ListsClaim.{lists_claim}
-use Rattle.host_memory.proofs.PartBytes.{part_byte}
-use Rattle.host_memory.proofs.TablesClaim.{tables_claim, taken_claim}
-use Rattle.host_memory.proofs.VectorsClaim.{vectors_claim}
-use Rattle.host_memory.proofs.WorldParts.{dos_is, arena_is, blocks_is, budget_is, pageable_is, descriptors_is, interrupt_vectors_is}
-use Rattle.host_memory.proofs.WorldParts.{exception_vectors_is, callbacks_is, calls_is}
+use Rattle.host_memory.specs.{Holds.{Holds}, HoldsWorld.{HoldsWorld, frame_place}, Layout.{world_of, dos_part, rows_part, tables_part}}
+use Rattle.host_memory.specs.Layout.{handles_part, locks_part, budget_part, blocks_in}
+use Rattle.host_memory.proofs.{BlockRows.{HasRanges, ranges}, BlocksClaim.{blocks_claim}, FreeParts.{list_of_parts}}
+use Rattle.host_memory.proofs.{ListsClaim.{lists_claim}, PartBytes.{part_byte}, TablesClaim.{tables_claim, taken_claim}}
+use Rattle.host_memory.proofs.{VectorsClaim.{vectors_claim}, WorldParts.{dos_is, arena_is, blocks_is, budget_is, pageable_is}}
+use Rattle.host_memory.proofs.WorldParts.{descriptors_is, interrupt_vectors_is, exception_vectors_is, callbacks_is, calls_is}
 
 megabyte_claim : (b : List ℕ) (w : World) → w.dos ≡ dos_part b → (at : ℕ) → at < DOS_SIZE → slice_index b at ≡ slice_index w.dos at
 megabyte_claim b w dos at within =

@@ -1,16 +1,11 @@
 -- The directory of a memory that holds a world: what the walk and the mapping ask for.
 use Rattle.std.proofs.Common.{◌≡◌, ℕ, ◌+◌, ◌-◌, ◌/◌, List, true, ap, ◌∙◌, arith}
-use Rattle.client_world.specs.declared.memory_map.TheConstants.{HOST_WINDOW}
-use Rattle.client_world.specs.declared.host_frames.TheConstants.{PAGE_DIRECTORY, BLOCK_TABLES}
-use Rattle.page_tables.specs.Entry.{page_entry}
-use Rattle.page_tables.specs.Walk.{TablesInside}
-use Rattle.page_tables.specs.Mapping.{HasTables}
+use Rattle.client_world.specs.{declared.memory_map.TheConstants.{HOST_WINDOW}, declared.host_frames.TheConstants.{PAGE_DIRECTORY}}
+use Rattle.client_world.specs.declared.host_frames.TheConstants.{BLOCK_TABLES}
+use Rattle.page_tables.specs.{Entry.{page_entry}, Walk.{TablesInside}, Mapping.{HasTables}, declared.entry.TheConstants.{TABLE_SPAN}}
 use Rattle.page_tables.proofs.HostDirectory.{HasHostDirectory, HasTables-host_directory}
-use Rattle.host_memory.specs.Holds.{Holds}
-use Rattle.host_memory.specs.Layout.{fixed_part}
-use Rattle.host_memory.specs.Tables.{HasFixedEntries}
+use Rattle.host_memory.specs.{Holds.{Holds}, Layout.{fixed_part}, Tables.{HasFixedEntries}}
 use Rattle.host_memory.proofs.FixedWalks.{directory_is, directory_of_block, directory_of_none}
-use Rattle.page_tables.specs.declared.entry.TheConstants.{TABLE_SPAN}
 
 -- the entries of the directory are those of the host
 pub host_directory : (b : List ℕ) → HasFixedEntries (fixed_part b) → HasHostDirectory b

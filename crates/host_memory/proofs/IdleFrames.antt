@@ -1,15 +1,12 @@
 -- No page of the block region lies in an idle frame of the budget: so what is written to blocks leaves the list of free frames.
-use Rattle.std.proofs.Common.{◌≢◌, ℕ, ◌+◌, ◌-◌, ◌*◌, ◌/◌, ◌<◌, ◌≤◌, ◌⊎◌, List, arith}
-use Rattle.std.proofs.lemmas.List.{get_or_past}
+use Rattle.std.proofs.{Common.{◌≢◌, ℕ, ◌+◌, ◌-◌, ◌*◌, ◌/◌, ◌<◌, ◌≤◌, ◌⊎◌, List, arith}, lemmas.List.{get_or_past}}
 use Rattle.client_world.specs.declared.host_frames.TheConstants.{PAGE_SIZE, BUDGET_FRAMES}
 use Rattle.client_world.specs.declared.memory_map.TheConstants.{BLOCK_REGION_PAGES}
 use Rattle.guest_ram.proofs.PutLaws.{length-region}
 use Rattle.page_tables.proofs.BlankTables.{dword_zero}
-use Rattle.host_memory.specs.Holds.{Holds}
-use Rattle.host_memory.specs.Layout.{entry_of, first_page_of, handles_part, tables_part, taken_part}
-use Rattle.host_memory.specs.Tables.{IsIdle, NamesBudgetFrame}
-use Rattle.host_memory.proofs.BlockBytes.{IsBlockByte, byte_frame}
-use Rattle.host_memory.proofs.ByteLaw.{spot}
+use Rattle.host_memory.specs.{Holds.{Holds}, Layout.{entry_of, first_page_of, handles_part, tables_part, taken_part}, Tables.{IsIdle}}
+use Rattle.host_memory.specs.Tables.{NamesBudgetFrame}
+use Rattle.host_memory.proofs.{BlockBytes.{IsBlockByte, byte_frame}, ByteLaw.{spot}}
 
 -- an entry that names a frame is one of the block region
 entry_inside : (b : List ℕ) (budget page : ℕ) → Holds b budget → entry_of (tables_part b) page ≢ 0 → page < BLOCK_REGION_PAGES

@@ -21,7 +21,7 @@ pub mod ListsClaim
 pub mod OnlyAtLaws
 pub mod PartBytes
 pub mod Parts
-pub mod PlaceRanges
+pub mod PlaceEnds
 pub mod PutParts
 pub mod RowWrites
 pub mod TablesClaim

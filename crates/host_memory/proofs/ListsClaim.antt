@@ -1,20 +1,15 @@
 -- The records of calls and the entries of DOS memory of a memory that holds a world, said with no decoding.
 use Rattle.std.proofs.Common.{◌≡◌, ℕ, zero, suc, ◌+◌, ◌*◌, ◌<◌, ◌≤◌, inl, inr, nat_eq, List, length, slice_index, Some, ap, ◌∙◌, sym, arith}
-use Rattle.std.specs.List.{slice_get}
 use Rattle.std.proofs.lemmas.Bool.{cases_Bool}
-use Rattle.client_world.specs.declared.calls.Record.{Record}
-use Rattle.client_world.specs.declared.dos_memory.DosEntry.{DosEntry}
+use Rattle.std.specs.List.{slice_get}
+use Rattle.client_world.specs.{declared.calls.Record.{Record}, declared.dos_memory.DosEntry.{DosEntry}}
 use Rattle.client_world.specs.declared.host_frames.TheConstants.{RECORDS, DOS_LIST, DOS_LIST_FRAMES, RECORD_FRAMES}
-use Rattle.client_world.specs.declared.limits.TheConstants.{GREATEST_DEPTH}
-use Rattle.client_world.specs.World.{World}
+use Rattle.client_world.specs.{declared.limits.TheConstants.{GREATEST_DEPTH}, World.{World}}
 use Rattle.guest_ram.proofs.ListedLaws.{length-listed}
-use Rattle.host_memory.specs.DosList.{arena_in, entry_at, entry_bytes, entry_count, entries_from, entry_room, entry_size}
-use Rattle.host_memory.specs.Holds.{Holds}
-use Rattle.host_memory.specs.HoldsWorld.{HoldsLists, frame_place}
-use Rattle.host_memory.specs.Layout.{arena_part, records_part}
-use Rattle.host_memory.specs.Records.{calls_in, record_at, record_bytes, record_count, record_size, records_from}
-use Rattle.host_memory.proofs.PartBytes.{part_byte}
-use Rattle.host_memory.proofs.VectorsClaim.{IsItem, item_is}
+use Rattle.host_memory.specs.{DosList.{arena_in, entry_at, entry_bytes, entry_count, entries_from, entry_room, entry_size}, Holds.{Holds}}
+use Rattle.host_memory.specs.{HoldsWorld.{HoldsLists, frame_place}, Layout.{arena_part, records_part}, Records.{calls_in, record_at}}
+use Rattle.host_memory.specs.Records.{record_bytes, record_count, record_size, records_from}
+use Rattle.host_memory.proofs.{PartBytes.{part_byte}, VectorsClaim.{IsItem, item_is}}
 
 -- no more records, or entries, are counted than there is room for
 pub records_few : (part : List ℕ) (place n : ℕ) → records_from part place n ≤ n
@@ -43,11 +38,12 @@ arena_item : (part : List ℕ) (place : ℕ) (entry : DosEntry) → slice_get (a
 unfolding arena_in
 arena_item part place entry e = item_is (entry_count part) (λ k. entry_at part (entry_size * k)) place entry e
 
-length-calls_in : (part : List ℕ) → length (calls_in part) ≡ record_count part
+-- as many as the bytes tell
+pub length-calls_in : (part : List ℕ) → length (calls_in part) ≡ record_count part
 unfolding calls_in
 length-calls_in part = length-listed (record_count part) (λ k. record_at part (record_size * k))
 
-length-arena_in : (part : List ℕ) → length (arena_in part) ≡ entry_count part
+pub length-arena_in : (part : List ℕ) → length (arena_in part) ≡ entry_count part
 unfolding arena_in
 length-arena_in part = length-listed (entry_count part) (λ k. entry_at part (entry_size * k))
 

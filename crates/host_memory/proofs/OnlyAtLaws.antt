@@ -1,13 +1,9 @@
 -- Bytes that are written one after the other, each at its place: only these places change.
 use Rattle.std.proofs.Common.{◌≡◌, ℕ, ◌*◌, ◌<◌, ◌≤◌, List, ◌++◌, length, slice_index, slice_index_or, slice_set, refl, arith, length-set}
-use Rattle.std.proofs.Common.{get_or-set_other}
-use Rattle.std.proofs.lemmas.List.{length-append, get_or-append-add, get_or_append_left}
-use Rattle.client_world.specs.declared.place.Place.{Place}
-use Rattle.client_world.specs.declared.place.Place.TheVariants.{Nothing}
-use Rattle.client_world.specs.declared.host_frames.TheConstants.{PAGE_SIZE, BUDGET_FRAMES}
-use Rattle.client_world.specs.declared.memory_map.TheConstants.{DOS_SIZE}
-use Rattle.host_memory.specs.Layout.{address_of}
-use Rattle.host_memory.specs.View.{OnlyAt}
+use Rattle.std.proofs.{Common.{get_or-set_other}, lemmas.List.{length-append, get_or-append-add, get_or_append_left}}
+use Rattle.client_world.specs.{declared.place.Place.{Place}, declared.place.Place.TheVariants.{Nothing}}
+use Rattle.client_world.specs.{declared.host_frames.TheConstants.{PAGE_SIZE, BUDGET_FRAMES}, declared.memory_map.TheConstants.{DOS_SIZE}}
+use Rattle.host_memory.specs.{Layout.{address_of}, View.{OnlyAt}}
 
 -- nothing is written yet
 pub only_start : (places : List Place) (b : List ℕ) → OnlyAt places b b

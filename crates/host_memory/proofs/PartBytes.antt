@@ -3,8 +3,7 @@ use Rattle.std.proofs.Common.{◌≡◌, ℕ, ◌+◌, ◌*◌, ◌<◌, ◌≤�
 use Rattle.client_world.specs.declared.host_frames.TheConstants.{PAGE_SIZE}
 use Rattle.guest_ram.specs.Bytes.{dword, word_of}
 use Rattle.guest_ram.proofs.PutLaws.{at_region, dword-region}
-use Rattle.host_memory.specs.Layout.{frames_at}
-use Rattle.host_memory.specs.HoldsWorld.{frame_place}
+use Rattle.host_memory.specs.{Layout.{frames_at}, HoldsWorld.{frame_place}}
 
 pub part_byte : (b : List ℕ) (first n at : ℕ) → at < PAGE_SIZE * n →
     slice_index b (frame_place first at) ≡ slice_index (frames_at b first n) at

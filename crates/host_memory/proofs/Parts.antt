@@ -2,24 +2,17 @@
 -- the parts (`PutParts`), and from it follow the world after it and that the memory still holds one.
 use Rattle.std.proofs.Common.{◌≡◌, ℕ, zero, suc, ◌+◌, ◌*◌, ◌≤◌, Bool, List, length, refl, ap, ◌∙◌, sym, subst}
 use Rattle.std.specs.declared.option.Option.{Option}
-use Rattle.client_world.specs.declared.registers.Mode.{Mode}
-use Rattle.client_world.specs.declared.registers.Regs.{Regs}
-use Rattle.client_world.specs.declared.registers.Width.{Width}
-use Rattle.client_world.specs.declared.place.Place.{Place}
-use Rattle.client_world.specs.declared.place.Place.TheVariants.{Dos, Block, Host, Nothing}
-use Rattle.client_world.specs.declared.host_frames.TheConstants.{PAGE_SIZE, BUDGET_FRAMES}
-use Rattle.client_world.specs.declared.limits.TheConstants.{MAX_PAGES}
+use Rattle.client_world.specs.{declared.registers.Mode.{Mode}, declared.registers.Regs.{Regs}, declared.registers.Width.{Width}}
+use Rattle.client_world.specs.{declared.place.Place.{Place}, declared.place.Place.TheVariants.{Dos, Block, Host, Nothing}}
+use Rattle.client_world.specs.{declared.host_frames.TheConstants.{PAGE_SIZE, BUDGET_FRAMES}, declared.limits.TheConstants.{MAX_PAGES}}
 use Rattle.client_world.specs.World.{World}
-use Rattle.guest_ram.specs.Bytes.{dword}
-use Rattle.guest_ram.specs.Count.{used}
+use Rattle.guest_ram.specs.{Bytes.{dword}, Count.{used}}
 use Rattle.desc_table.specs.Rows.{rows_from}
 use Rattle.host_memory.specs.Layout.{world_of, address_of, dos_part, fixed_part, tables_part, rows_part, vectors_part, records_part}
 use Rattle.host_memory.specs.Layout.{handles_part, locks_part, arena_part, taken_part, budget_part, blocks_in}
 use Rattle.host_memory.specs.Vectors.{interrupt_vectors_in, exception_vectors_in, callbacks_in, pageable_in, head_start, KeepsVectors}
-use Rattle.host_memory.specs.Records.{calls_in, KeepsRecords}
-use Rattle.host_memory.specs.DosList.{arena_in, KeepsArena}
-use Rattle.host_memory.specs.Tables.{HasFixedEntries, HasBlockEntries, IsIdle, next_frame}
-use Rattle.host_memory.specs.Holds.{Holds, KeepsRows, KeepsHandles, KeepsLocks, ListsFreeFrames, all_pages}
+use Rattle.host_memory.specs.{Records.{calls_in, KeepsRecords}, DosList.{arena_in, KeepsArena}, Tables.{HasFixedEntries, HasBlockEntries}}
+use Rattle.host_memory.specs.{Tables.{IsIdle, next_frame}, Holds.{Holds, KeepsRows, KeepsHandles, KeepsLocks, ListsFreeFrames, all_pages}}
 use Rattle.host_memory.proofs.FreeParts.{list_kept}
 
 -- the bytes of each part
@@ -74,17 +67,20 @@ world_of_parts parts budget mode regs vif width = record {
   calls = calls_in parts.records;
 }
 
-pub world_is : (b : List ℕ) (budget : ℕ) (mode : Mode) (regs : Regs) (vif : Bool) (width : Option Width) →
-    world_of b budget mode regs vif width ≡ world_of_parts (parts_of b budget) budget mode regs vif width
-unfolding world_of
-world_is b budget mode regs vif width = refl
+-- a memory of that page budget that has these parts
+pub record HasParts (c : List ℕ) (budget : ℕ) (parts : MemoryParts) : Type 0 where
+  pub size : HasSize c budget
+  pub are : parts_of c budget ≡ parts
 
--- the world of a memory whose parts are known
-pub world_by : (c : List ℕ) (budget : ℕ) (parts : MemoryParts) → parts_of c budget ≡ parts →
+pub own_parts : (b : List ℕ) (budget : ℕ) → Holds b budget → HasParts b budget (parts_of b budget)
+own_parts b budget holds = record { size = holds.size; are = refl }
+
+-- then their world is its world
+pub world_by : (c : List ℕ) (budget : ℕ) (parts : MemoryParts) → HasParts c budget parts →
     (mode : Mode) (regs : Regs) (vif : Bool) (width : Option Width) →
     world_of c budget mode regs vif width ≡ world_of_parts parts budget mode regs vif width
-world_by c budget parts e mode regs vif width =
-    world_is c budget mode regs vif width ∙ ap (λ (p : MemoryParts). world_of_parts p budget mode regs vif width) e
+unfolding world_of
+world_by c budget parts has mode regs vif width = ap (λ (p : MemoryParts). world_of_parts p budget mode regs vif width) has.are
 
 -- what the parts must keep
 pub record HoldsParts (parts : MemoryParts) (budget : ℕ) : Type 0 where
@@ -105,11 +101,11 @@ holds_parts b budget holds = assumption
 parts_hold : (c : List ℕ) (budget : ℕ) → HasSize c budget → budget ≤ MAX_PAGES → HoldsParts (parts_of c budget) budget → Holds c budget
 parts_hold c budget size most holds = assumption
 
--- a memory whose parts are known holds a world where they keep it
-pub holds_by : (c : List ℕ) (budget : ℕ) (parts : MemoryParts) → parts_of c budget ≡ parts → HasSize c budget → budget ≤ MAX_PAGES →
-    HoldsParts parts budget → Holds c budget
-holds_by c budget parts e size most holds =
-    parts_hold c budget size most (subst (λ (p : MemoryParts). HoldsParts p budget) (sym e) holds)
+-- a memory that has them holds a world where they keep it
+pub holds_by : (c : List ℕ) (budget : ℕ) (parts : MemoryParts) → HasParts c budget parts → budget ≤ MAX_PAGES → HoldsParts parts budget →
+    Holds c budget
+holds_by c budget parts has most holds =
+    parts_hold c budget has.size most (subst (λ (p : MemoryParts). HoldsParts p budget) (sym has.are) holds)
 
 -- places keep their addresses where the rows of blocks and the page entries are the same
 pub addresses_by : (b c : List ℕ) → handles_part c ≡ handles_part b → tables_part c ≡ tables_part b → (place : Place) →
@@ -120,6 +116,12 @@ addresses_by b c handles tables (Block zero at) = refl
 addresses_by b c handles tables (Block (suc place) at) = rw (handles, tables)
 addresses_by b c handles tables Host = refl
 addresses_by b c handles tables Nothing = refl
+
+-- the same where the parts that were put have these two still
+pub addresses_of : (b c : List ℕ) (budget : ℕ) (parts : MemoryParts) → HasParts c budget parts → parts.handles ≡ handles_part b →
+    parts.tables ≡ tables_part b → (place : Place) → address_of c place ≡ address_of b place
+addresses_of b c budget parts has handles tables =
+    addresses_by b c (ap (λ (p : MemoryParts). p.handles) has.are ∙ handles) (ap (λ (p : MemoryParts). p.tables) has.are ∙ tables)
 
 -- the parts that no other has to agree with may change; each has its own condition
 holds_with : (parts : MemoryParts) (budget : ℕ) (dos rows vectors records arena frames : List ℕ) → KeepsRows rows → KeepsVectors vectors →

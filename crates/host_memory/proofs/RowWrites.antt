@@ -1,24 +1,18 @@
 -- A row of the descriptors that is written is that row of the world, and nothing else changes; the rows of the memory are those of the
 -- world.
-use Rattle.std.proofs.Common.{◌≡◌, ◌≢◌, ℕ, ◌+◌, ◌*◌, ◌<◌, ◌≤◌, ◌⊎◌, Bool, List, length, slice_set, refl, ap, ◌∙◌, sym, arith, Option, None}
-use Rattle.std.proofs.Common.{zero-add}
-use Rattle.std.proofs.lemmas.Bool.{cases_order}
-use Rattle.client_world.specs.declared.registers.Mode.{Mode}
-use Rattle.client_world.specs.declared.registers.Regs.{Regs}
-use Rattle.client_world.specs.declared.registers.Width.{Width}
+use Rattle.std.proofs.Common.{◌≡◌, ◌≢◌, ℕ, ◌+◌, ◌*◌, ◌<◌, ◌≤◌, ◌⊎◌, Bool, List, length, slice_set, ap, ◌∙◌, sym, arith, Option, None}
+use Rattle.std.proofs.{Common.{zero-add}, lemmas.Bool.{cases_order}}
+use Rattle.client_world.specs.{declared.registers.Mode.{Mode}, declared.registers.Regs.{Regs}, declared.registers.Width.{Width}}
 use Rattle.client_world.specs.declared.host_frames.TheConstants.{PAGE_SIZE, DESCRIPTOR_ROWS, DESCRIPTORS, DESCRIPTOR_ROW_SIZE}
-use Rattle.client_world.specs.declared.host_frames.TheConstants.{FIRST_FREE_DESCRIPTOR, DESCRIPTOR_ROW_FRAMES}
-use Rattle.client_world.specs.FreeRuns.{IsFreeRunOf, IsFirstFreeRunOf}
-use Rattle.client_world.specs.Selector.{Row, FitsRow, row_at_index}
+use Rattle.client_world.specs.{declared.host_frames.TheConstants.{FIRST_FREE_DESCRIPTOR, DESCRIPTOR_ROW_FRAMES}, FreeRuns.{IsFreeRunOf}}
+use Rattle.client_world.specs.{FreeRuns.{IsFirstFreeRunOf}, Selector.{Row, FitsRow, row_at_index}}
 use Rattle.guest_ram.specs.Bytes.{put}
 use Rattle.guest_ram.proofs.PutLaws.{put_within, put_away, length-region}
 use Rattle.desc_table.specs.Rows.{row_at, row_bytes, rows_from, rows_start, row_address, IsFreeRun, IsFirstFreeRun}
 use Rattle.desc_table.proofs.RowLaws.{length-row_bytes, row_at-put, row_at-put_away, rows_from-put, rows_from-region, at_rows_from}
-use Rattle.host_memory.specs.Layout.{world_of, rows_part}
-use Rattle.host_memory.specs.Holds.{Holds, KeepsRows}
-use Rattle.host_memory.proofs.Parts.{parts_of, world_by, holds_by, holds_parts, holds_with_rows}
-use Rattle.host_memory.proofs.PutParts.{put_rows, size_put}
-use Rattle.host_memory.proofs.WorldParts.{descriptors_is}
+use Rattle.host_memory.specs.{Layout.{world_of, rows_part}, Holds.{Holds, KeepsRows}}
+use Rattle.host_memory.proofs.{Parts.{HasParts, holds_by, holds_parts, holds_with_rows, own_parts, parts_of, world_by}, PutParts.{Rows}}
+use Rattle.host_memory.proofs.{PutParts.{put_part}, WorldParts.{descriptors_is}}
 
 length-rows_part : (b : List ℕ) (budget : ℕ) → Holds b budget → length (rows_part b) ≡ DESCRIPTOR_ROW_SIZE * DESCRIPTORS
 length-rows_part b budget holds =
@@ -41,11 +35,11 @@ keeps_rows rows index row long small fits keeps =
     grind (arith, beside_row, cases_order, length-row_bytes, put_away, put_within, row_at-put, row_at-put_away)
 
 -- what the write does to the parts
-row_parts : (b : List ℕ) (budget : ℕ) → Holds b budget → (index : ℕ) (row : Row) → index < DESCRIPTORS →
-    parts_of (put b (row_address index) (row_bytes row)) budget ≡ record (parts_of b budget) { rows = with_row (rows_part b) index row }
-row_parts b budget holds index row small =
-    put_rows b budget (row_address index) (DESCRIPTOR_ROW_SIZE * index) (row_bytes row) holds.size refl
-    (omega (arith, length-row_bytes row))
+row_has : (b : List ℕ) (budget : ℕ) → Holds b budget → (index : ℕ) (row : Row) → index < DESCRIPTORS →
+    HasParts (put b (row_address index) (row_bytes row)) budget (record (parts_of b budget) { rows = with_row (rows_part b) index row })
+row_has b budget holds index row small =
+    put_part Rows b budget (parts_of b budget) (row_address index) (DESCRIPTOR_ROW_SIZE * index) (row_bytes row) (own_parts b budget holds)
+    (omega arith) (omega (arith, length-row_bytes row))
 
 pub row_world : (b : List ℕ) (budget : ℕ) → Holds b budget →
     (mode : Mode) (regs : Regs) (vif : Bool) (width : Option Width) (index : ℕ) (row : Row) →
@@ -55,8 +49,7 @@ pub row_world : (b : List ℕ) (budget : ℕ) → Holds b budget →
     width) { descriptors = slice_set (world_of b budget mode regs vif width).descriptors index row }
 unfolding world_of
 row_world b budget holds mode regs vif width index row small fits =
-    world_by (put b (row_address index) (row_bytes row)) budget (record (parts_of b budget) { rows = with_row (rows_part b) index row })
-    (row_parts b budget holds index row small) mode regs vif width
+    world_by (put b (row_address index) (row_bytes row)) budget _ (row_has b budget holds index row small) mode regs vif width
     ∙ ap (λ (rows : List Row). record (world_of b budget mode regs vif width) { descriptors = rows })
     (ap (λ (at : ℕ). rows_from (put (rows_part b) at (row_bytes row)) 0) (sym (zero-add (DESCRIPTOR_ROW_SIZE * index)))
     ∙ rows_from-put (rows_part b) 0 index row fits small (omega (arith, length-rows_part b budget holds)))
@@ -64,8 +57,7 @@ row_world b budget holds mode regs vif width index row small fits =
 pub row_holds : (b : List ℕ) (budget : ℕ) → Holds b budget → (index : ℕ) (row : Row) → index < DESCRIPTORS → FitsRow row →
     Holds (put b (row_address index) (row_bytes row)) budget
 row_holds b budget holds index row small fits =
-    holds_by (put b (row_address index) (row_bytes row)) budget (record (parts_of b budget) { rows = with_row (rows_part b) index row })
-    (row_parts b budget holds index row small) (size_put b budget (row_address index) (row_bytes row) holds.size) holds.most
+    holds_by (put b (row_address index) (row_bytes row)) budget _ (row_has b budget holds index row small) holds.most
     (holds_with_rows (parts_of b budget) budget (with_row (rows_part b) index row)
     (keeps_rows (rows_part b) index row (length-rows_part b budget holds) small fits holds.rows) (holds_parts b budget holds))
 

@@ -1,22 +1,17 @@
 -- The page tables and the taken bytes of a memory that holds a world, said with no decoding.
 use Rattle.std.proofs.Common.{◌≡◌, ◌≢◌, ℕ, suc, ◌+◌, ◌-◌, ◌*◌, ◌/◌, ◌<◌, inl, inr, true, List, length, slice_index, Some, ap, ◌∙◌, sym}
-use Rattle.std.proofs.Common.{arith}
-use Rattle.std.proofs.lemmas.Bool.{cases_eq}
+use Rattle.std.proofs.{Common.{arith}, lemmas.Bool.{cases_eq}}
 use Rattle.std.specs.declared.option.Option.{Option}
 use Rattle.client_world.specs.declared.host_frames.TheConstants.{PAGE_SIZE, PAGE_DIRECTORY, LOW_TABLE, WINDOW_TABLE, BLOCK_TABLES}
 use Rattle.client_world.specs.declared.host_frames.TheConstants.{TAKEN_FRAMES, BUDGET_FRAMES, BLOCK_TABLE_FRAMES, FIXED_TABLE_FRAMES}
 use Rattle.client_world.specs.declared.host_frames.TheConstants.{PAGE_ENTRY_SIZE, TAKEN_BYTE_FRAMES}
-use Rattle.client_world.specs.declared.memory_map.TheConstants.{BLOCK_REGION, BLOCK_REGION_PAGES}
-use Rattle.client_world.specs.World.{World, MemoryBlock, block_at}
+use Rattle.client_world.specs.{declared.memory_map.TheConstants.{BLOCK_REGION, BLOCK_REGION_PAGES}, World.{World, MemoryBlock, block_at}}
 use Rattle.guest_ram.specs.Bytes.{dword}
 use Rattle.page_tables.specs.Entry.{page_entry}
-use Rattle.host_memory.specs.Holds.{Holds}
-use Rattle.host_memory.specs.HoldsWorld.{HoldsTables, HoldsTaken, IsNoBlocks, block_entry, block_page, frame_place}
+use Rattle.host_memory.specs.{Holds.{Holds}, HoldsWorld.{HoldsTables, HoldsTaken, IsNoBlocks, block_entry, block_page, frame_place}}
 use Rattle.host_memory.specs.Layout.{tables_part, handles_part, locks_part, budget_part, taken_part, pages_of, first_page_of, entry_of}
-use Rattle.host_memory.specs.Layout.{held_block, blocks_in}
-use Rattle.host_memory.specs.Tables.{NamesBudgetFrame, IsOutside, low_table_start, window_table_start}
-use Rattle.host_memory.proofs.BlockBytes.{page_small}
-use Rattle.host_memory.proofs.BlockRows.{HeldRow, HasRanges, held_row, held_base, length-held_locks, block_there}
+use Rattle.host_memory.specs.{Layout.{held_block, blocks_in}, Tables.{NamesBudgetFrame, IsOutside, low_table_start, window_table_start}}
+use Rattle.host_memory.proofs.{BlockBytes.{page_small}, BlockRows.{HeldRow, HasRanges, held_row, held_base, length-held_locks, block_there}}
 use Rattle.host_memory.proofs.PartBytes.{part_byte, part_dword}
 
 -- the blocks of the world are those that the memory holds

@@ -4,12 +4,10 @@ use Rattle.std.proofs.Common.{slice_index, slice_set, refl, ap, ◌∙◌, sym, 
 use Rattle.std.proofs.lemmas.Bool.{cases_eq, cases_lt}
 use Rattle.client_world.specs.declared.host_frames.TheConstants.{PAGE_SIZE, CALLBACK_SIZE, VECTOR_FRAMES, VECTOR_SIZE}
 use Rattle.client_world.specs.declared.limits.TheConstants.{CALLBACKS, INTERRUPT_VECTORS, EXCEPTION_VECTORS}
-use Rattle.client_world.specs.declared.memory_map.TheConstants.{DOS_VIEW_PAGES}
-use Rattle.client_world.specs.declared.segments.FarPtr.{FarPtr}
-use Rattle.client_world.specs.World.{Callback}
+use Rattle.client_world.specs.{declared.memory_map.TheConstants.{DOS_VIEW_PAGES}, declared.segments.FarPtr.{FarPtr}, World.{Callback}}
 use Rattle.guest_ram.specs.Bytes.{put, dword, dword_bytes, word_of}
-use Rattle.guest_ram.proofs.ListedLaws.{listed-set, same_listed}
-use Rattle.guest_ram.proofs.PutLaws.{dword_put, length-put, put_away, put_below, put_within, same_dword}
+use Rattle.guest_ram.proofs.{ListedLaws.{listed-set, same_listed}, PutLaws.{dword_put, length-put, put_away, put_below, put_within}}
+use Rattle.guest_ram.proofs.PutLaws.{same_dword}
 use Rattle.host_memory.specs.Vectors.{KeepsVectors, callback_at, callback_bytes, callbacks_in, callbacks_start, exception_vectors_in}
 use Rattle.host_memory.specs.Vectors.{exceptions_start, head_end, head_start, interrupt_vectors_in, pageable_in, pageable_start, pointer_at}
 use Rattle.host_memory.specs.Vectors.{vector_bytes, word_bytes}

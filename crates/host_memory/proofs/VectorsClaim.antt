@@ -1,20 +1,16 @@
 -- The frame of the vectors of a memory that holds a world, said with no decoding.
 use Rattle.std.proofs.Common.{◌≡◌, ℕ, ◌+◌, ◌*◌, ◌<◌, false, nat_eq, cond, List, get_or, slice_index, None, Some, ap, ◌∙◌, sym, arith}
+use Rattle.std.proofs.{lemmas.Bool.{eq-eqb, ne_eqb}, lemmas.Option.{slice_get_within, get_or_from_slice_get}}
 use Rattle.std.specs.List.{slice_get}
-use Rattle.std.proofs.lemmas.Bool.{eq-eqb, ne_eqb}
-use Rattle.std.proofs.lemmas.Option.{slice_get_within, get_or_from_slice_get}
-use Rattle.client_world.specs.declared.segments.FarPtr.{FarPtr}
-use Rattle.client_world.specs.declared.host_frames.TheConstants.{PAGE_SIZE, VECTORS, CALLBACK_SIZE, VECTOR_FRAMES, VECTOR_SIZE}
-use Rattle.client_world.specs.declared.limits.TheConstants.{CALLBACKS, INTERRUPT_VECTORS, EXCEPTION_VECTORS}
-use Rattle.client_world.specs.declared.memory_map.TheConstants.{DOS_VIEW_PAGES}
-use Rattle.client_world.specs.World.{World}
+use Rattle.client_world.specs.{declared.segments.FarPtr.{FarPtr}, declared.host_frames.TheConstants.{PAGE_SIZE, VECTORS, CALLBACK_SIZE}}
+use Rattle.client_world.specs.{declared.host_frames.TheConstants.{VECTOR_FRAMES, VECTOR_SIZE}, declared.limits.TheConstants.{CALLBACKS}}
+use Rattle.client_world.specs.declared.limits.TheConstants.{INTERRUPT_VECTORS, EXCEPTION_VECTORS}
+use Rattle.client_world.specs.{declared.memory_map.TheConstants.{DOS_VIEW_PAGES}, World.{World}}
 use Rattle.guest_ram.specs.Listed.{listed}
 use Rattle.guest_ram.proofs.ListedLaws.{length-listed, at_listed}
-use Rattle.host_memory.specs.Holds.{Holds}
-use Rattle.host_memory.specs.HoldsWorld.{HoldsVectors, frame_place}
-use Rattle.host_memory.specs.Layout.{vectors_part}
-use Rattle.host_memory.specs.Vectors.{pointer_at, vector_bytes, callback_bytes, exceptions_start, callbacks_start, pageable_start}
-use Rattle.host_memory.specs.Vectors.{interrupt_vectors_in, exception_vectors_in, callbacks_in, pageable_in}
+use Rattle.host_memory.specs.{Holds.{Holds}, HoldsWorld.{HoldsVectors, frame_place}, Layout.{vectors_part}, Vectors.{pointer_at}}
+use Rattle.host_memory.specs.Vectors.{vector_bytes, callback_bytes, exceptions_start, callbacks_start, pageable_start, interrupt_vectors_in}
+use Rattle.host_memory.specs.Vectors.{exception_vectors_in, callbacks_in, pageable_in}
 use Rattle.host_memory.proofs.PartBytes.{part_byte}
 
 -- an item of a list that is given by a function

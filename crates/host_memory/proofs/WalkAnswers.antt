@@ -1,11 +1,7 @@
 -- What the answer of an access says of the world.
-use Rattle.std.proofs.Common.{◌≡◌, ℕ, Bool, true, false, List, Ok, Err, refl, arith}
-use Rattle.std.proofs.lemmas.Bool.{cases_Bool}
-use Rattle.client_world.specs.declared.faults.PageFault.{PageFault}
-use Rattle.client_world.specs.declared.place.Place.{Place}
-use Rattle.client_world.specs.Access.{may_touch, is_present}
-use Rattle.host_memory.specs.Law.{walk_result}
-use Rattle.host_memory.specs.Layout.{address_of}
+use Rattle.std.proofs.{Common.{◌≡◌, ℕ, Bool, true, false, List, Ok, Err, refl, arith}, lemmas.Bool.{cases_Bool}}
+use Rattle.client_world.specs.{declared.faults.PageFault.{PageFault}, declared.place.Place.{Place}, Access.{may_touch, is_present}}
+use Rattle.host_memory.specs.{Law.{walk_result}, Layout.{address_of}}
 
 -- an access that ends: the client may touch the place, and it ends at the place's address
 pub record TouchesAt (b : List ℕ) (place : Place) (write : Bool) (p : ℕ) : Type 0 where

@@ -1,33 +1,22 @@
 -- A walk of the page tables ends exactly where the client may touch, at the address of the place, and else fails as the place says.
 use Rattle.std.proofs.Common.{◌≡◌, ◌≢◌, ℕ, ◌+◌, ◌-◌, ◌*◌, ◌/◌, ◌%◌, ◌<◌, ◌≤◌, ◌^◌, inl, inr, Bool, true, false, List, ap, ◌∙◌, sym, arith}
-use Rattle.std.proofs.Common.{Ok}
-use Rattle.std.proofs.lemmas.Bool.{lt-ltb, le-ltb, cases_lt}
+use Rattle.std.proofs.{Common.{Ok}, lemmas.Bool.{lt-ltb, le-ltb, cases_lt}}
 use Rattle.std.specs.declared.option.Option.{Option}
-use Rattle.client_world.specs.declared.limits.TheConstants.{MAX_BLOCKS}
-use Rattle.client_world.specs.declared.registers.Mode.{Mode}
-use Rattle.client_world.specs.declared.registers.Regs.{Regs}
-use Rattle.client_world.specs.declared.registers.Width.{Width}
-use Rattle.client_world.specs.declared.place.Place.{Place}
+use Rattle.client_world.specs.{declared.limits.TheConstants.{MAX_BLOCKS}, declared.registers.Mode.{Mode}, declared.registers.Regs.{Regs}}
+use Rattle.client_world.specs.{declared.registers.Width.{Width}, declared.place.Place.{Place}}
 use Rattle.client_world.specs.declared.host_frames.TheConstants.{PAGE_SIZE, PAGE_DIRECTORY, LOW_TABLE, WINDOW_TABLE, DOS_FRAMES}
 use Rattle.client_world.specs.declared.host_frames.TheConstants.{BUDGET_FRAMES, TABLE_ENTRIES}
 use Rattle.client_world.specs.declared.memory_map.TheConstants.{DOS_VIEW_PAGES, ROM_START, BLOCK_REGION, BLOCK_REGION_END, HOST_WINDOW}
-use Rattle.client_world.specs.Access.{place_in, place_of, dos_address}
-use Rattle.client_world.specs.Soundness.{SoundBlocks}
-use Rattle.client_world.specs.World.{MemoryBlock}
-use Rattle.page_tables.specs.Entry.{page_entry}
-use Rattle.page_tables.specs.Walk.{walked, walk_end}
-use Rattle.page_tables.specs.declared.entry.TheConstants.{TABLE_SPAN}
-use Rattle.host_memory.specs.Holds.{Holds}
-use Rattle.host_memory.specs.Law.{walk_result}
-use Rattle.host_memory.specs.Layout.{world_of, fixed_part, tables_part, handles_part, locks_part, taken_part, budget_part, base_of}
-use Rattle.host_memory.specs.Layout.{pages_of, first_page_of, blocks_in}
-use Rattle.host_memory.specs.Tables.{HasFixedEntries, HasBlockEntries, IsOutside}
-use Rattle.host_memory.proofs.BlockRows.{HasRanges, InRow, InBlock, InNoBlock, over_tells, ranges}
-use Rattle.host_memory.proofs.EntryEnds.{ends_in_page, reads_in_page, forbids_write, finds_no_page, forbids_client, finds_no_host_page}
-use Rattle.host_memory.proofs.FixedWalks.{low_walk, window_walk, region_walk, no_walk}
-use Rattle.host_memory.proofs.PlaceRanges.{place_in_view, place_in_gap, place_below_window, place_in_window, place_above_window, told_dos}
-use Rattle.host_memory.proofs.PlaceRanges.{told_read, told_rom_write, told_block, told_host, told_nothing}
-use Rattle.host_memory.proofs.WorldParts.{blocks_is}
+use Rattle.client_world.specs.{Access.{place_in, place_of, dos_address}, Soundness.{SoundBlocks}, World.{MemoryBlock}}
+use Rattle.client_world.proofs.PlaceLaws.{place-above, place-dos, place-gap, place-gap_above_blocks, place-host}
+use Rattle.page_tables.specs.{Entry.{page_entry}, Walk.{walked, walk_end}, declared.entry.TheConstants.{TABLE_SPAN}}
+use Rattle.host_memory.specs.{Holds.{Holds}, Law.{walk_result}, Layout.{world_of, fixed_part, tables_part, handles_part, locks_part}}
+use Rattle.host_memory.specs.{Layout.{taken_part, budget_part, base_of, pages_of, first_page_of, blocks_in}, Tables.{HasFixedEntries}}
+use Rattle.host_memory.specs.Tables.{HasBlockEntries, IsOutside}
+use Rattle.host_memory.proofs.{BlockRows.{HasRanges, InRow, InBlock, InNoBlock, over_tells, ranges}, EntryEnds.{ends_in_page}}
+use Rattle.host_memory.proofs.EntryEnds.{reads_in_page, forbids_write, finds_no_page, forbids_client, finds_no_host_page}
+use Rattle.host_memory.proofs.{FixedWalks.{low_walk, window_walk, region_walk, no_walk}, PlaceEnds.{told_dos, told_read, told_rom_write}}
+use Rattle.host_memory.proofs.{PlaceEnds.{told_block, told_host, told_nothing}, WorldParts.{blocks_is}}
 
 -- an access ends at the place that is there
 pub to_place : (b : List ℕ) (blocks : List (Option MemoryBlock)) (lin : ℕ) (write : Bool) (place : Place) → place_in blocks lin ≡ place →
@@ -42,7 +31,7 @@ writable_law b blocks lin frame write shown e below =
     ends_in_page LOW_TABLE frame lin write
     ∙ ap (λ (p : ℕ). Ok p) e
     ∙ sym (told_dos b (dos_address lin) write below)
-    ∙ to_place b blocks lin write _ (place_in_view blocks lin shown)
+    ∙ to_place b blocks lin write _ (place-dos blocks lin shown)
 
 -- in read-only memory
 rom_law : (b : List ℕ) (blocks : List (Option MemoryBlock)) (lin : ℕ) (write : Bool) → ROM_START ≤ lin → lin < 0x100000 →
@@ -50,12 +39,12 @@ rom_law : (b : List ℕ) (blocks : List (Option MemoryBlock)) (lin : ℕ) (write
 rom_law b blocks lin true from to =
     forbids_write LOW_TABLE (lin / PAGE_SIZE) lin
     ∙ sym (told_rom_write b (dos_address lin) (omega arith))
-    ∙ to_place b blocks lin true _ (place_in_view blocks lin (omega arith))
+    ∙ to_place b blocks lin true _ (place-dos blocks lin (omega arith))
 rom_law b blocks lin false from to =
     reads_in_page LOW_TABLE (lin / PAGE_SIZE) lin
     ∙ ap (λ (p : ℕ). Ok p) (let e : PAGE_SIZE * (lin / PAGE_SIZE) + lin % PAGE_SIZE ≡ dos_address lin = omega arith in e)
     ∙ sym (told_read b (dos_address lin))
-    ∙ to_place b blocks lin false _ (place_in_view blocks lin (omega arith))
+    ∙ to_place b blocks lin false _ (place-dos blocks lin (omega arith))
 
 -- below 4 MB
 pub low_law : (b : List ℕ) (blocks : List (Option MemoryBlock)) (lin : ℕ) (write : Bool) → HasFixedEntries (fixed_part b) →
@@ -75,7 +64,7 @@ low_law b blocks lin write fixed below = low_walk b lin write fixed below ∙ el
         le-ltb (lin / PAGE_SIZE) DOS_VIEW_PAGES gap,
       )
           (finds_no_page LOW_TABLE lin write ∙ sym (told_nothing b write)
-          ∙ to_place b blocks lin write _ (place_in_gap blocks lin (omega arith) below))
+          ∙ to_place b blocks lin write _ (place-gap blocks lin (omega arith) below))
     ]
   ]
 ]
@@ -85,19 +74,19 @@ pub high_law : (b : List ℕ) (blocks : List (Option MemoryBlock)) (lin : ℕ) (
     BLOCK_REGION_END ≤ lin → lin < 2 ^ 32 → walked b PAGE_DIRECTORY lin write ≡ walk_result b (place_in blocks lin) write
 high_law b blocks lin write fixed from small = elim (cases_lt lin HOST_WINDOW) [
   | inl below ↦ no_walk b lin write fixed small from (inl below) ∙ sym (told_nothing b write)
-      ∙ to_place b blocks lin write _ (place_below_window blocks lin from below)
+      ∙ to_place b blocks lin write _ (place-gap_above_blocks blocks lin from below)
   | inr window ↦ elim (cases_lt lin (HOST_WINDOW + TABLE_SPAN)) [
     | inl table ↦ window_walk b lin write fixed window table
         ∙ elim (cases_lt (lin / PAGE_SIZE % TABLE_ENTRIES) (BUDGET_FRAMES - PAGE_DIRECTORY)) [
           | inl host ↦ rw (lt-ltb (lin / PAGE_SIZE % TABLE_ENTRIES) (BUDGET_FRAMES - PAGE_DIRECTORY) host)
               (forbids_client WINDOW_TABLE (PAGE_DIRECTORY + lin / PAGE_SIZE % TABLE_ENTRIES) lin write ∙ sym (told_host b write)
-              ∙ to_place b blocks lin write _ (place_in_window blocks lin window (omega arith)))
+              ∙ to_place b blocks lin write _ (place-host blocks lin window (omega arith)))
           | inr none ↦ rw (le-ltb (lin / PAGE_SIZE % TABLE_ENTRIES) (BUDGET_FRAMES - PAGE_DIRECTORY) none)
               (finds_no_host_page WINDOW_TABLE lin write ∙ sym (told_nothing b write)
-              ∙ to_place b blocks lin write _ (place_above_window blocks lin (omega arith)))
+              ∙ to_place b blocks lin write _ (place-above blocks lin (omega arith)))
         ]
     | inr above ↦ no_walk b lin write fixed small from (inr above) ∙ sym (told_nothing b write)
-        ∙ to_place b blocks lin write _ (place_above_window blocks lin (omega arith))
+        ∙ to_place b blocks lin write _ (place-above blocks lin (omega arith))
   ]
 ]
 

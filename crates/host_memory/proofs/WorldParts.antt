@@ -1,15 +1,11 @@
 -- Parts of the world that a memory holds, each read by itself.
 use Rattle.std.proofs.Common.{◌≡◌, ℕ, Bool, List, refl}
 use Rattle.std.specs.declared.option.Option.{Option}
-use Rattle.client_world.specs.declared.registers.Mode.{Mode}
-use Rattle.client_world.specs.declared.registers.Regs.{Regs}
-use Rattle.client_world.specs.declared.registers.Width.{Width}
+use Rattle.client_world.specs.{declared.registers.Mode.{Mode}, declared.registers.Regs.{Regs}, declared.registers.Width.{Width}}
 use Rattle.desc_table.specs.Rows.{rows_from}
-use Rattle.host_memory.specs.Vectors.{interrupt_vectors_in, exception_vectors_in, callbacks_in, pageable_in}
-use Rattle.host_memory.specs.Records.{calls_in}
-use Rattle.host_memory.specs.DosList.{arena_in}
-use Rattle.host_memory.specs.Layout.{world_of, dos_part, tables_part, rows_part, vectors_part, records_part, handles_part, locks_part}
-use Rattle.host_memory.specs.Layout.{arena_part, budget_part, blocks_in}
+use Rattle.host_memory.specs.{Vectors.{interrupt_vectors_in, exception_vectors_in, callbacks_in, pageable_in}, Records.{calls_in}}
+use Rattle.host_memory.specs.{DosList.{arena_in}, Layout.{world_of, dos_part, tables_part, rows_part, vectors_part, records_part}}
+use Rattle.host_memory.specs.Layout.{handles_part, locks_part, arena_part, budget_part, blocks_in}
 
 -- what the processor keeps
 pub regs_is : (b : List ℕ) (budget : ℕ) (mode : Mode) (regs : Regs) (vif : Bool) (width : Option Width) →

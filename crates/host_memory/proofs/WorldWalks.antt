@@ -1,35 +1,24 @@
 -- A memory that holds a sound world, said with no decoding, is walked as the world says: the law, from the bytes that the world asks for.
 use Rattle.std.proofs.Common.{◌≡◌, ℕ, zero, suc, ◌+◌, ◌-◌, ◌*◌, ◌/◌, ◌%◌, ◌<◌, ◌≤◌, ◌^◌, ◌⊎◌, inl, inr, Bool, true, List, length}
-use Rattle.std.proofs.Common.{slice_index, Some, Ok, refl, ap, ◌∙◌, sym, arith}
-use Rattle.std.proofs.lemmas.List.{get_or_past}
-use Rattle.std.proofs.lemmas.Bool.{le-leb, lt-ltb, cases_lt, ltb-true, leb-true, and_parts, and_from, false≢true}
+use Rattle.std.proofs.{Common.{slice_index, Some, Ok, refl, ap, ◌∙◌, sym, arith}, lemmas.List.{get_or_past}, lemmas.Bool.{le-leb, lt-ltb}}
+use Rattle.std.proofs.lemmas.Bool.{cases_lt, ltb-true, leb-true, and_parts, and_from, false≢true}
 use Rattle.std.specs.declared.option.Option.{Option}
-use Rattle.client_world.specs.declared.place.Place.TheVariants.{Dos, Block, Nothing}
-use Rattle.client_world.specs.declared.host_frames.TheConstants.{PAGE_SIZE, PAGE_DIRECTORY, LOW_TABLE, WINDOW_TABLE, BLOCK_ROWS}
-use Rattle.client_world.specs.declared.host_frames.TheConstants.{FIXED_TABLE_FRAMES, BLOCK_ROW_FRAMES, BLOCK_ROW_SIZE, PAGE_ENTRY_SIZE}
-use Rattle.client_world.specs.declared.limits.TheConstants.{MAX_BLOCKS}
-use Rattle.client_world.specs.declared.memory_map.TheConstants.{DOS_SIZE, DOS_VIEW_END, BLOCK_REGION, BLOCK_REGION_END, BLOCK_REGION_PAGES}
-use Rattle.client_world.specs.Access.{place_of, dos_address, may_touch, bytes_of_block, covers}
-use Rattle.client_world.specs.Soundness.{IsBlock, SoundBlocks}
-use Rattle.client_world.specs.World.{World, MemoryBlock, block_at, base_of_block}
+use Rattle.client_world.specs.{declared.place.Place.TheVariants.{Dos, Block, Nothing}, declared.host_frames.TheConstants.{PAGE_SIZE}}
+use Rattle.client_world.specs.declared.host_frames.TheConstants.{PAGE_DIRECTORY, LOW_TABLE, WINDOW_TABLE, BLOCK_ROWS, FIXED_TABLE_FRAMES}
+use Rattle.client_world.specs.declared.host_frames.TheConstants.{BLOCK_ROW_FRAMES, BLOCK_ROW_SIZE, PAGE_ENTRY_SIZE}
+use Rattle.client_world.specs.{declared.limits.TheConstants.{MAX_BLOCKS}, declared.memory_map.TheConstants.{DOS_SIZE, DOS_VIEW_END}}
+use Rattle.client_world.specs.{declared.memory_map.TheConstants.{BLOCK_REGION, BLOCK_REGION_END, BLOCK_REGION_PAGES}, Access.{place_of}}
+use Rattle.client_world.specs.{Access.{dos_address, may_touch, bytes_of_block, covers}, Soundness.{IsBlock, SoundBlocks}, World.{World}}
+use Rattle.client_world.specs.World.{MemoryBlock, block_at, base_of_block}
+use Rattle.client_world.proofs.PlaceLaws.{place-above, place-block, place-dos, place-gap, place-gap_above_blocks, place-host}
 use Rattle.guest_ram.specs.Bytes.{dword}
-use Rattle.page_tables.specs.Entry.{page_entry}
-use Rattle.page_tables.specs.Walk.{walked, walk_end}
-use Rattle.host_memory.specs.HoldsWorld.{HoldsWorld, HoldsTables, HoldsBlocks, IsNoBlocks, block_entry, block_page}
-use Rattle.host_memory.specs.HoldsWorld.{frame_place}
-use Rattle.host_memory.specs.Law.{walk_result, StandsAt}
-use Rattle.host_memory.specs.Layout.{address_of, fixed_part, tables_part, handles_part, base_of, entry_of}
+use Rattle.page_tables.specs.{Entry.{page_entry}, Walk.{walked, walk_end}}
+use Rattle.host_memory.specs.HoldsWorld.{HoldsWorld, HoldsTables, HoldsBlocks, IsNoBlocks, block_entry, block_page, frame_place}
+use Rattle.host_memory.specs.{Law.{walk_result, StandsAt}, Layout.{address_of, fixed_part, tables_part, handles_part, base_of, entry_of}}
 use Rattle.host_memory.specs.Tables.{HasFixedEntries, low_table_start, window_table_start}
-use Rattle.host_memory.proofs.BlockPlaces.{FindsBlock, FindsNothing, search_tells}
-use Rattle.host_memory.proofs.BlockRows.{place_in_region}
-use Rattle.host_memory.proofs.ByteLaw.{stands_by, forbidden}
-use Rattle.host_memory.proofs.EntryEnds.{ends_in_page, finds_no_page}
-use Rattle.host_memory.proofs.FixedWalks.{block_table, region_walk}
-use Rattle.host_memory.proofs.PartBytes.{part_dword}
-use Rattle.host_memory.proofs.PlaceRanges.{block_address_is, place_in_view, place_in_gap, place_below_window, place_in_window}
-use Rattle.host_memory.proofs.PlaceRanges.{place_above_window, told_nothing}
-use Rattle.host_memory.proofs.TablesClaim.{entry_is}
-use Rattle.host_memory.proofs.WalkAnswers.{told_may}
+use Rattle.host_memory.proofs.{BlockPlaces.{FindsBlock, FindsNothing, search_tells}, ByteLaw.{stands_by, forbidden}}
+use Rattle.host_memory.proofs.{EntryEnds.{ends_in_page, finds_no_page}, FixedWalks.{block_table, region_walk}, PartBytes.{part_dword}}
+use Rattle.host_memory.proofs.{PlaceEnds.{block_address_is, told_nothing}, TablesClaim.{entry_is}, WalkAnswers.{told_may}}
 use Rattle.host_memory.proofs.WalkLaw.{to_place, low_law, high_law}
 
 -- an entry of a table after the directory lies in the table's frame
@@ -85,7 +74,7 @@ found_byte w lin sound from to found =
       is = sound.each (suc found.place) found.block found.there;
       offset = omega arith;
       inside = omega arith;
-      answer = place_in_region w.blocks lin from to ∙ found.answer
+      answer = place-block w.blocks lin from to ∙ found.answer
           ∙ ap (λ (number : ℕ). Block number (lin - found.block.base)) (let next : 1 + found.place ≡ suc found.place = omega arith in next);
     }
 
@@ -115,7 +104,7 @@ region_tells w lin sound from to = elim (search_tells w.blocks 1 lin) [
   | inl found ↦ inl (found_byte w lin sound from to found)
   | inr missed ↦ inr (record {
     none = missed_blocks w lin sound from missed;
-    answer = place_in_region w.blocks lin from to ∙ missed.answer;
+    answer = place-block w.blocks lin from to ∙ missed.answer;
   })
 ]
 
@@ -217,13 +206,13 @@ region_stands b w lin write holds may (inr missed) = forbidden b w lin write Not
 pub world_byte : (b : List ℕ) (w : World) → HoldsWorld b w → SoundBlocks w.blocks w.budget → (lin : ℕ) (write : Bool) →
     may_touch (place_of w lin) write ≡ true → StandsAt b w (place_of w lin)
 world_byte b w holds sound lin write may = elim (cases_lt lin DOS_VIEW_END) [
-  | inl shown ↦ stands_by b w lin (Dos (dos_address lin)) (place_in_view w.blocks lin shown)
+  | inl shown ↦ stands_by b w lin (Dos (dos_address lin)) (place-dos w.blocks lin shown)
       (megabyte_stands b w (dos_address lin) holds (omega arith))
   | inr behind ↦ elim (cases_lt lin BLOCK_REGION) [
-    | inl gap ↦ forbidden b w lin write Nothing (place_in_gap w.blocks lin behind gap) refl may
+    | inl gap ↦ forbidden b w lin write Nothing (place-gap w.blocks lin behind gap) refl may
     | inr from ↦ elim (cases_lt lin BLOCK_REGION_END) [
       | inl to ↦ region_stands b w lin write holds may (region_tells w lin sound from to)
-      | inr high ↦ grind (arith, forbidden, place_above_window, place_below_window, place_in_window)
+      | inr high ↦ grind (arith, forbidden, place-above, place-gap_above_blocks, place-host)
     ]
   ]
 ]

@@ -1,19 +1,13 @@
 -- The world of a new machine. Source: own.
 use Rattle.std.specs.Prelude.{ℕ, ◌+◌, ◌-◌, ◌/◌, ◌%◌, true, false, nat_eq, nat_lt, if◌then◌else◌, List, [], ◌∷◌, None}
-use Rattle.client_world.specs.declared.registers.Mode.TheVariants.{Real}
-use Rattle.client_world.specs.declared.registers.Regs.{Regs}
-use Rattle.client_world.specs.declared.registers.Flags.{Flags}
-use Rattle.client_world.specs.declared.segments.FarPtr.{FarPtr}
-use Rattle.client_world.specs.declared.dos_memory.DosEntry.{DosEntry}
-use Rattle.client_world.specs.declared.dos_memory.DosState.TheVariants.{Free}
-use Rattle.client_world.specs.declared.host_frames.TheConstants.{DESCRIPTORS}
+use Rattle.client_world.specs.{declared.registers.Mode.TheVariants.{Real}, declared.registers.Regs.{Regs}, declared.registers.Flags.{Flags}}
+use Rattle.client_world.specs.{declared.segments.FarPtr.{FarPtr}, declared.dos_memory.DosEntry.{DosEntry}}
+use Rattle.client_world.specs.{declared.dos_memory.DosState.TheVariants.{Free}, declared.host_frames.TheConstants.{DESCRIPTORS}}
 use Rattle.client_world.specs.declared.limits.TheConstants.{MAX_BLOCKS, CALLBACKS, INTERRUPT_VECTORS, EXCEPTION_VECTORS}
 use Rattle.client_world.specs.declared.memory_map.TheConstants.{DOS_SIZE, DOS_VIEW_PAGES, VECTOR_TABLE_SIZE, ROM_START, ROM_SEGMENT}
 use Rattle.client_world.specs.declared.memory_map.TheConstants.{ROM_BYTE, ARENA_START, ARENA_END}
-use Rattle.client_world.specs.declared.selectors.TheConstants.{HOST_CODE}
-use Rattle.client_world.specs.declared.traps.TheConstants.{PROTECTED_VECTOR_TRAPS, EXCEPTION_TRAPS}
-use Rattle.client_world.specs.Selector.{selector_of}
-use Rattle.client_world.specs.World.{World}
+use Rattle.client_world.specs.{declared.selectors.TheConstants.{HOST_CODE}, declared.traps.TheConstants.{PROTECTED_VECTOR_TRAPS}}
+use Rattle.client_world.specs.{declared.traps.TheConstants.{EXCEPTION_TRAPS}, Selector.{selector_of}, World.{World}}
 use Rattle.guest_ram.specs.Listed.{listed}
 use Rattle.host_memory.specs.Headers.{with_headers}
 

@@ -1,11 +1,9 @@
 -- The frames of the list of DOS memory. Source: own.
 use Rattle.std.specs.Prelude.{◌≡◌, ℕ, zero, suc, ◌+◌, ◌*◌, ◌/◌, ◌<◌, ◌≤◌, nat_eq, if◌then◌else◌, List, [], ◌∷◌, ◌++◌, slice_index}
-use Rattle.client_world.specs.declared.dos_memory.DosEntry.{DosEntry}
-use Rattle.client_world.specs.declared.dos_memory.DosState.{DosState}
-use Rattle.client_world.specs.declared.dos_memory.DosState.TheVariants.{Free, Used, Dpmi}
-use Rattle.client_world.specs.declared.host_frames.TheConstants.{PAGE_SIZE, DOS_ENTRY_SIZE, DOS_LIST_FRAMES}
-use Rattle.guest_ram.specs.Bytes.{word_of}
-use Rattle.guest_ram.specs.Listed.{listed}
+use Rattle.client_world.specs.{declared.dos_memory.DosEntry.{DosEntry}, declared.dos_memory.DosState.{DosState}}
+use Rattle.client_world.specs.{declared.dos_memory.DosState.TheVariants.{Free, Used, Dpmi}, declared.host_frames.TheConstants.{PAGE_SIZE}}
+use Rattle.client_world.specs.declared.host_frames.TheConstants.{DOS_ENTRY_SIZE, DOS_LIST_FRAMES}
+use Rattle.guest_ram.specs.{Bytes.{word_of}, Listed.{listed}}
 use Rattle.host_memory.specs.Vectors.{word_bytes}
 
 -- the bytes of the frames, of an entry, and the entries for which there is room

@@ -3,13 +3,12 @@ use Rattle.std.specs.Prelude.{◌≡◌, ℕ, ◌+◌, ◌-◌, ◌*◌, ◌/◌
 use Rattle.client_world.specs.declared.host_frames.TheConstants.{LOW_TABLE, PAGE_DIRECTORY, PAGE_SIZE, TABLE_ENTRIES, VECTORS, WINDOW_TABLE}
 use Rattle.client_world.specs.declared.limits.TheConstants.{EXCEPTION_VECTORS, INTERRUPT_VECTORS}
 use Rattle.client_world.specs.declared.memory_map.TheConstants.{ROM_START, ROM_SEGMENT, SEGMENT_SIZE}
-use Rattle.client_world.specs.declared.selectors.TheConstants.{HOST_CODE}
-use Rattle.client_world.specs.declared.traps.TheConstants.{PROTECTED_VECTOR_TRAPS}
+use Rattle.client_world.specs.{declared.selectors.TheConstants.{HOST_CODE}, declared.traps.TheConstants.{PROTECTED_VECTOR_TRAPS}}
 use Rattle.client_world.specs.Selector.{selector_of}
 use Rattle.guest_ram.specs.Bytes.{dword_bytes}
-use Rattle.host_memory.specs.declared.blank.Table.{Table}
-use Rattle.host_memory.specs.declared.blank.Table.TheVariants.{RealVectors, Directory, Low, Window, ProtectedVectors}
-use Rattle.host_memory.specs.Tables.{directory_entry_at, low_entry_at, window_entry_at}
+use Rattle.host_memory.specs.{declared.blank.Table.{Table}, declared.blank.Table.TheVariants.{RealVectors, Directory, Low, Window}}
+use Rattle.host_memory.specs.{declared.blank.Table.TheVariants.{ProtectedVectors}, Tables.{directory_entry_at, low_entry_at}}
+use Rattle.host_memory.specs.Tables.{window_entry_at}
 
 -- the doublewords f 0, f 1 and so on were written from an address on, n of them, and nothing else
 pub record Written (f : ℕ → ℕ) (from count : ℕ) (old new : List ℕ) : Type 0 where

@@ -1,19 +1,14 @@
 -- The memory holds a world: its bytes are exactly those that the world asks for. Source: own.
-use Rattle.std.specs.Prelude.{◌≡◌, ℕ, ◌+◌, ◌*◌, ◌<◌, ◌≤◌, List, length, slice_index}
-use Rattle.std.specs.List.{range_with_len}
+use Rattle.std.specs.{Prelude.{◌≡◌, ℕ, ◌+◌, ◌*◌, ◌<◌, ◌≤◌, List, length, slice_index}, List.{range_with_len}}
 use Rattle.client_world.specs.declared.host_frames.TheConstants.{PAGE_SIZE, BUDGET_FRAMES, DESCRIPTORS, DESCRIPTOR_ROW_SIZE, BLOCK_ROW_SIZE}
-use Rattle.client_world.specs.declared.limits.TheConstants.{MAX_BLOCKS, MAX_PAGES}
-use Rattle.client_world.specs.declared.memory_map.TheConstants.{BLOCK_REGION_PAGES}
-use Rattle.guest_ram.specs.Bytes.{dword}
-use Rattle.guest_ram.specs.Count.{used, total}
+use Rattle.client_world.specs.{declared.limits.TheConstants.{MAX_BLOCKS, MAX_PAGES}, declared.memory_map.TheConstants.{BLOCK_REGION_PAGES}}
+use Rattle.guest_ram.specs.{Bytes.{dword}, Count.{used, total}}
 use Rattle.desc_table.specs.Rows.{row_at, row_bytes}
 use Rattle.page_tables.specs.FreeList.{ListsFree}
 use Rattle.host_memory.specs.Layout.{fixed_part, tables_part, rows_part, vectors_part, records_part, handles_part, locks_part, arena_part}
-use Rattle.host_memory.specs.Layout.{taken_part, budget_part, pages_of, lock_of}
-use Rattle.host_memory.specs.Vectors.{KeepsVectors, head_start}
-use Rattle.host_memory.specs.Records.{KeepsRecords}
-use Rattle.host_memory.specs.DosList.{KeepsArena}
-use Rattle.host_memory.specs.Tables.{HasFixedEntries, HasBlockEntries, IsIdle, IsOutside, next_frame}
+use Rattle.host_memory.specs.{Layout.{taken_part, budget_part, pages_of, lock_of}, Vectors.{KeepsVectors, head_start}}
+use Rattle.host_memory.specs.{Records.{KeepsRecords}, DosList.{KeepsArena}, Tables.{HasFixedEntries, HasBlockEntries, IsIdle, IsOutside}}
+use Rattle.host_memory.specs.Tables.{next_frame}
 
 -- each row of descriptors is exactly the bytes of what it holds
 pub record KeepsRows (rows : List ℕ) : Type 0 where

@@ -1,28 +1,21 @@
 -- The memory holds a world, said of its bytes with no decoding: a reader of this page need not trust how `world_of` reads them.
 -- Source: own; the entries of pages by the 80386 Programmer's Reference Manual, ch. 5, "Page Translation".
 use Rattle.std.specs.Prelude.{◌≡◌, ◌≢◌, ℕ, ◌+◌, ◌-◌, ◌*◌, ◌/◌, ◌%◌, ◌<◌, ◌≤◌, true, false, cond, List, length, None, Some, slice_index}
-use Rattle.std.specs.Prelude.{slice_index_or, slice_get}
-use Rattle.std.specs.declared.option.Option.{Option}
-use Rattle.client_world.specs.declared.segments.FarPtr.{FarPtr}
-use Rattle.client_world.specs.declared.dos_memory.DosEntry.{DosEntry}
-use Rattle.client_world.specs.declared.calls.Record.{Record}
+use Rattle.std.specs.{Prelude.{slice_index_or, slice_get}, declared.option.Option.{Option}}
+use Rattle.client_world.specs.{declared.segments.FarPtr.{FarPtr}, declared.dos_memory.DosEntry.{DosEntry}, declared.calls.Record.{Record}}
 use Rattle.client_world.specs.declared.host_frames.TheConstants.{PAGE_SIZE, PAGE_DIRECTORY, LOW_TABLE, WINDOW_TABLE, BLOCK_TABLES}
 use Rattle.client_world.specs.declared.host_frames.TheConstants.{DESCRIPTOR_ROWS, VECTORS, RECORDS, BLOCK_ROWS, LOCK_COUNTS, DOS_LIST}
 use Rattle.client_world.specs.declared.host_frames.TheConstants.{TAKEN_FRAMES, BUDGET_FRAMES, DESCRIPTORS, DESCRIPTOR_ROW_SIZE}
 use Rattle.client_world.specs.declared.host_frames.TheConstants.{BLOCK_ROW_SIZE, CALLBACK_SIZE, LOCK_COUNT_SIZE, PAGE_ENTRY_SIZE}
 use Rattle.client_world.specs.declared.host_frames.TheConstants.{TABLE_ENTRIES, VECTOR_SIZE, RECORD_FRAMES, VECTOR_FRAMES}
-use Rattle.client_world.specs.declared.limits.TheConstants.{MAX_BLOCKS, MAX_PAGES, CALLBACKS}
-use Rattle.client_world.specs.declared.memory_map.TheConstants.{DOS_SIZE, DOS_VIEW_PAGES, BLOCK_REGION, BLOCK_REGION_PAGES}
-use Rattle.client_world.specs.Selector.{row_at_index}
-use Rattle.client_world.specs.Soundness.{pages_of_block}
-use Rattle.client_world.specs.World.{World, MemoryBlock, base_of_block, block_at}
+use Rattle.client_world.specs.{declared.limits.TheConstants.{MAX_BLOCKS, MAX_PAGES, CALLBACKS}, declared.memory_map.TheConstants.{DOS_SIZE}}
+use Rattle.client_world.specs.{declared.memory_map.TheConstants.{DOS_VIEW_PAGES, BLOCK_REGION, BLOCK_REGION_PAGES}, Selector.{row_at_index}}
+use Rattle.client_world.specs.{Soundness.{pages_of_block}, World.{World, MemoryBlock, base_of_block, block_at}}
 use Rattle.guest_ram.specs.Bytes.{dword, word_of}
 use Rattle.desc_table.specs.Rows.{row_bytes}
-use Rattle.page_tables.specs.Entry.{page_entry}
-use Rattle.page_tables.specs.FreeList.{HasFreeList}
+use Rattle.page_tables.specs.{Entry.{page_entry}, FreeList.{HasFreeList}}
 use Rattle.host_memory.specs.Vectors.{vector_bytes, callback_bytes, exceptions_start, callbacks_start, pageable_start, head_end}
-use Rattle.host_memory.specs.Records.{record_bytes, record_size}
-use Rattle.host_memory.specs.DosList.{entry_bytes, entry_size, list_size}
+use Rattle.host_memory.specs.{Records.{record_bytes, record_size}, DosList.{entry_bytes, entry_size, list_size}}
 use Rattle.host_memory.specs.Tables.{directory_entry_at, low_entry_at, window_entry_at, NamesBudgetFrame}
 
 -- the address of a byte of a host frame

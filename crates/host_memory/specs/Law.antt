@@ -1,12 +1,9 @@
 -- What the walk of the page tables must agree with. Source: own.
 use Rattle.std.specs.Prelude.{◌≡◌, ℕ, ◌*◌, ◌<◌, ◌≤◌, ◌⊎◌, Bool, if◌then◌else◌, Ok, List, length, slice_index}
 use Rattle.std.specs.declared.result.Result.{Result}
-use Rattle.client_world.specs.declared.faults.PageFault.{PageFault}
-use Rattle.client_world.specs.declared.place.Place.{Place}
-use Rattle.client_world.specs.declared.host_frames.TheConstants.{PAGE_SIZE, BUDGET_FRAMES}
-use Rattle.client_world.specs.declared.memory_map.TheConstants.{DOS_SIZE}
-use Rattle.client_world.specs.Access.{may_touch, is_present, byte_of}
-use Rattle.client_world.specs.World.{World}
+use Rattle.client_world.specs.{declared.faults.PageFault.{PageFault}, declared.place.Place.{Place}}
+use Rattle.client_world.specs.{declared.host_frames.TheConstants.{PAGE_SIZE, BUDGET_FRAMES}, declared.memory_map.TheConstants.{DOS_SIZE}}
+use Rattle.client_world.specs.{Access.{may_touch, is_present, byte_of}, World.{World}}
 use Rattle.page_tables.specs.Walk.{fault}
 use Rattle.host_memory.specs.Layout.{address_of}
 

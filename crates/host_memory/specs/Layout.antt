@@ -2,25 +2,18 @@
 -- regions alone, so that a write elsewhere leaves it. Source: own.
 use Rattle.std.specs.Prelude.{ℕ, zero, suc, ◌+◌, ◌-◌, ◌*◌, ◌/◌, ◌%◌, Bool, nat_eq, if◌then◌else◌, List, None, Some, slice_index}
 use Rattle.std.specs.declared.option.Option.{Option}
-use Rattle.client_world.specs.declared.registers.Mode.{Mode}
-use Rattle.client_world.specs.declared.registers.Regs.{Regs}
-use Rattle.client_world.specs.declared.registers.Width.{Width}
-use Rattle.client_world.specs.declared.place.Place.{Place}
-use Rattle.client_world.specs.declared.place.Place.TheVariants.{Dos, Block, Host, Nothing}
+use Rattle.client_world.specs.{declared.registers.Mode.{Mode}, declared.registers.Regs.{Regs}, declared.registers.Width.{Width}}
+use Rattle.client_world.specs.{declared.place.Place.{Place}, declared.place.Place.TheVariants.{Dos, Block, Host, Nothing}}
 use Rattle.client_world.specs.declared.host_frames.TheConstants.{PAGE_SIZE, PAGE_DIRECTORY, BLOCK_TABLES, BLOCK_TABLE_FRAMES}
 use Rattle.client_world.specs.declared.host_frames.TheConstants.{DESCRIPTOR_ROWS, DESCRIPTOR_ROW_FRAMES, VECTORS, RECORDS, BLOCK_ROWS}
 use Rattle.client_world.specs.declared.host_frames.TheConstants.{BLOCK_ROW_FRAMES, LOCK_COUNTS, LOCK_COUNT_FRAMES, DOS_LIST}
 use Rattle.client_world.specs.declared.host_frames.TheConstants.{DOS_LIST_FRAMES, TAKEN_FRAMES, TAKEN_BYTE_FRAMES, BUDGET_FRAMES}
 use Rattle.client_world.specs.declared.host_frames.TheConstants.{BLOCK_ROW_SIZE, FIXED_TABLE_FRAMES, LOCK_COUNT_SIZE, PAGE_ENTRY_SIZE}
-use Rattle.client_world.specs.declared.host_frames.TheConstants.{RECORD_FRAMES, VECTOR_FRAMES}
-use Rattle.client_world.specs.declared.limits.TheConstants.{MAX_BLOCKS}
-use Rattle.client_world.specs.declared.memory_map.TheConstants.{DOS_SIZE, BLOCK_REGION}
-use Rattle.client_world.specs.World.{World, MemoryBlock}
-use Rattle.guest_ram.specs.Bytes.{region, word_of, dword}
-use Rattle.guest_ram.specs.Listed.{listed}
+use Rattle.client_world.specs.{declared.host_frames.TheConstants.{RECORD_FRAMES, VECTOR_FRAMES}, declared.limits.TheConstants.{MAX_BLOCKS}}
+use Rattle.client_world.specs.{declared.memory_map.TheConstants.{DOS_SIZE, BLOCK_REGION}, World.{World, MemoryBlock}}
+use Rattle.guest_ram.specs.{Bytes.{region, word_of, dword}, Listed.{listed}}
 use Rattle.desc_table.specs.Rows.{rows_from}
-use Rattle.host_memory.specs.Vectors.{interrupt_vectors_in, exception_vectors_in, callbacks_in, pageable_in}
-use Rattle.host_memory.specs.Records.{calls_in}
+use Rattle.host_memory.specs.{Vectors.{interrupt_vectors_in, exception_vectors_in, callbacks_in, pageable_in}, Records.{calls_in}}
 use Rattle.host_memory.specs.DosList.{arena_in}
 
 -- the bytes of some frames

@@ -1,18 +1,13 @@
 -- The frame of the records of calls. Source: own.
 use Rattle.std.specs.Prelude.{◌≡◌, ℕ, zero, suc, ◌+◌, ◌*◌, ◌<◌, ◌≤◌, Bool, not, nat_eq, if◌then◌else◌, cond, List, [], ◌∷◌, ◌++◌}
 use Rattle.std.specs.Prelude.{slice_index, false}
-use Rattle.client_world.specs.declared.registers.Regs.{Regs}
-use Rattle.client_world.specs.declared.segments.FarPtr.{FarPtr}
-use Rattle.client_world.specs.declared.calls.Call.{Call}
-use Rattle.client_world.specs.declared.calls.Call.TheVariants.{Int, Far, Iret, Reflect}
-use Rattle.client_world.specs.declared.calls.Record.{Record}
-use Rattle.client_world.specs.declared.calls.Record.TheVariants.{Sim, Back, Exc}
-use Rattle.client_world.specs.declared.host_frames.TheConstants.{PAGE_SIZE, RECORD_FRAMES, RECORD_SIZE}
-use Rattle.client_world.specs.declared.limits.TheConstants.{GREATEST_DEPTH}
-use Rattle.client_world.specs.Registers.{flags_image, flags_of_image}
+use Rattle.client_world.specs.{declared.registers.Regs.{Regs}, declared.segments.FarPtr.{FarPtr}, declared.calls.Call.{Call}}
+use Rattle.client_world.specs.{declared.calls.Call.TheVariants.{Int, Far, Iret, Reflect}, declared.calls.Record.{Record}}
+use Rattle.client_world.specs.{declared.calls.Record.TheVariants.{Sim, Back, Exc}, declared.host_frames.TheConstants.{PAGE_SIZE}}
+use Rattle.client_world.specs.declared.host_frames.TheConstants.{RECORD_FRAMES, RECORD_SIZE}
+use Rattle.client_world.specs.{declared.limits.TheConstants.{GREATEST_DEPTH}, Registers.{flags_image, flags_of_image}}
 use Rattle.client_world.specs.Segments.{null_pointer}
-use Rattle.guest_ram.specs.Bytes.{word_of, dword, dword_bytes}
-use Rattle.guest_ram.specs.Listed.{listed, zeros}
+use Rattle.guest_ram.specs.{Bytes.{word_of, dword, dword_bytes}, Listed.{listed, zeros}}
 use Rattle.host_memory.specs.Vectors.{word_bytes, pointer_at, pointer_bytes}
 
 -- the bytes of a record

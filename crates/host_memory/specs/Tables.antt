@@ -3,12 +3,10 @@ use Rattle.std.specs.Prelude.{◌≡◌, ◌≢◌, ℕ, ◌+◌, ◌-◌, ◌*�
 use Rattle.std.specs.Prelude.{slice_index}
 use Rattle.client_world.specs.declared.host_frames.TheConstants.{PAGE_SIZE, DOS_FRAMES, PAGE_DIRECTORY, LOW_TABLE, WINDOW_TABLE}
 use Rattle.client_world.specs.declared.host_frames.TheConstants.{BLOCK_TABLES, BLOCK_TABLE_FRAMES, BUDGET_FRAMES, PAGE_ENTRY_SIZE}
-use Rattle.client_world.specs.declared.host_frames.TheConstants.{TABLE_ENTRIES}
-use Rattle.client_world.specs.declared.limits.TheConstants.{MAX_BLOCKS, MAX_PAGES}
+use Rattle.client_world.specs.{declared.host_frames.TheConstants.{TABLE_ENTRIES}, declared.limits.TheConstants.{MAX_BLOCKS, MAX_PAGES}}
 use Rattle.client_world.specs.declared.memory_map.TheConstants.{DOS_VIEW_PAGES, ROM_START, BLOCK_REGION_PAGES, HOST_WINDOW}
 use Rattle.guest_ram.specs.Bytes.{dword}
-use Rattle.page_tables.specs.Entry.{page_entry}
-use Rattle.page_tables.specs.declared.entry.TheConstants.{TABLE_SPAN, SUPERVISOR_WRITABLE}
+use Rattle.page_tables.specs.{Entry.{page_entry}, declared.entry.TheConstants.{TABLE_SPAN, SUPERVISOR_WRITABLE}}
 use Rattle.host_memory.specs.Layout.{entry_of, pages_of, first_page_of}
 
 -- the entry of a frame that the supervisor alone may touch

@@ -1,28 +1,26 @@
 -- The frame of the protected-mode vectors, the callbacks, the pageable pages and the head of the list of free frames. Source: own.
 use Rattle.std.specs.Prelude.{◌≡◌, ℕ, ◌+◌, ◌*◌, ◌/◌, ◌%◌, ◌<◌, ◌≤◌, Bool, nat_eq, if◌then◌else◌, List, [], ◌∷◌, ◌++◌, None, Some}
-use Rattle.std.specs.Prelude.{slice_index}
-use Rattle.std.specs.declared.option.Option.{Option}
-use Rattle.client_world.specs.declared.segments.FarPtr.{FarPtr}
-use Rattle.client_world.specs.declared.host_frames.TheConstants.{PAGE_SIZE, CALLBACK_SIZE, VECTOR_FRAMES, VECTOR_SIZE}
+use Rattle.std.specs.{Prelude.{slice_index}, declared.option.Option.{Option}}
+use Rattle.client_world.specs.{declared.segments.FarPtr.{FarPtr}, declared.host_frames.TheConstants.{PAGE_SIZE, CALLBACK_SIZE}}
+use Rattle.client_world.specs.declared.host_frames.TheConstants.{VECTOR_FRAMES, VECTOR_SIZE, EXCEPTIONS_START, CALLBACKS_START}
+use Rattle.client_world.specs.declared.host_frames.TheConstants.{PAGEABLE_START, FREE_HEAD_START}
 use Rattle.client_world.specs.declared.limits.TheConstants.{CALLBACKS, INTERRUPT_VECTORS, EXCEPTION_VECTORS}
-use Rattle.client_world.specs.declared.memory_map.TheConstants.{DOS_VIEW_PAGES}
-use Rattle.client_world.specs.World.{Callback}
-use Rattle.guest_ram.specs.Bytes.{word_of, dword, dword_bytes}
-use Rattle.guest_ram.specs.Listed.{listed}
+use Rattle.client_world.specs.{declared.memory_map.TheConstants.{DOS_VIEW_PAGES}, World.{Callback}}
+use Rattle.guest_ram.specs.{Bytes.{word_of, dword, dword_bytes}, Listed.{listed}}
 
 -- where each list begins in the frame
 abbrev pub exceptions_start : ℕ
-exceptions_start = VECTOR_SIZE * INTERRUPT_VECTORS
+exceptions_start = EXCEPTIONS_START
 
 abbrev pub callbacks_start : ℕ
-callbacks_start = exceptions_start + VECTOR_SIZE * EXCEPTION_VECTORS
+callbacks_start = CALLBACKS_START
 
 abbrev pub pageable_start : ℕ
-pageable_start = callbacks_start + CALLBACK_SIZE * CALLBACKS
+pageable_start = PAGEABLE_START
 
 -- the doubleword that names the first free frame of the page budget, and where it ends
 abbrev pub head_start : ℕ
-head_start = pageable_start + DOS_VIEW_PAGES
+head_start = FREE_HEAD_START
 
 abbrev pub head_end : ℕ
 head_end = head_start + 4

@@ -1,9 +1,7 @@
 -- What contracts see of a machine. Source: own.
 use Rattle.std.specs.Prelude.{◌≡◌, ◌≢◌, ℕ, ◌*◌, ◌<◌, ◌≤◌, List, length, slice_index, slice_index_or}
-use Rattle.client_world.specs.declared.place.Place.{Place}
-use Rattle.client_world.specs.declared.place.Place.TheVariants.{Nothing}
-use Rattle.client_world.specs.declared.host_frames.TheConstants.{PAGE_SIZE, BUDGET_FRAMES}
-use Rattle.client_world.specs.declared.memory_map.TheConstants.{DOS_SIZE}
+use Rattle.client_world.specs.{declared.place.Place.{Place}, declared.place.Place.TheVariants.{Nothing}}
+use Rattle.client_world.specs.{declared.host_frames.TheConstants.{PAGE_SIZE, BUDGET_FRAMES}, declared.memory_map.TheConstants.{DOS_SIZE}}
 use Rattle.client_world.specs.World.{World}
 use Rattle.host_memory.specs.Layout.{address_of}
 

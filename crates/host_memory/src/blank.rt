@@ -1,12 +1,9 @@
 // A new memory: real mode, no block, no descriptor, the vectors that lead to the host, and all of DOS memory and of the page budget free.
 ghost use Rattle.std.specs.Prelude.{◌≡◌, ◌≤◌, ◌<◌, ◌+◌, ◌*◌, ℕ, IfOk, None, length, true};
-ghost use Rattle.client_world.specs.declared.registers.Mode.TheVariants.{Real};
-ghost use Rattle.client_world.specs.Soundness.{IsSound};
-ghost use Rattle.host_memory.specs.Blank.{no_regs, blank_world};
-ghost use Rattle.host_memory.specs.Filling.{Written, real_vector_at, table_entry, table_size, table_start, vector_half_at};
-ghost use Rattle.host_memory.specs.Holds.{Holds};
-ghost use Rattle.host_memory.specs.Layout.{world_of};
-ghost use Rattle.host_memory.specs.Tables.{directory_entry_at, low_entry_at, window_entry_at};
+ghost use Rattle.client_world.specs.{declared.registers.Mode.TheVariants.{Real}, Soundness.{IsSound}};
+ghost use Rattle.host_memory.specs.{Blank.{no_regs, blank_world}, Filling.{Written, real_vector_at, table_entry, table_size, table_start}};
+ghost use Rattle.host_memory.specs.{Filling.{vector_half_at}, Holds.{Holds}, Layout.{world_of}, Tables.{directory_entry_at, low_entry_at}};
+ghost use Rattle.host_memory.specs.Tables.{window_entry_at};
 
 use crate::dos_list::{header, listed_entry};
 use client_world::host_frames::{

@@ -1,7 +1,6 @@
 // The bytes of an entry of DOS memory: in the frames of the list, and in its header.
 ghost use Rattle.std.specs.Prelude.{◌≡◌};
-ghost use Rattle.host_memory.specs.DosList.{state_code, entry_bytes};
-ghost use Rattle.host_memory.specs.Headers.{owner_of, dos_header};
+ghost use Rattle.host_memory.specs.{DosList.{state_code, entry_bytes}, Headers.{owner_of, dos_header}};
 
 use client_world::memory_map::PSP_SEGMENT;
 use client_world::{DosEntry, DosState};

@@ -1,18 +1,10 @@
 // The laws over the definitions of this crate.
-ghost use Rattle.std.specs.Prelude.{◌≡◌, ◌<◌, ◌^◌, ℕ, Bool, true, List};
-ghost use Rattle.std.specs.declared.option.Option.{Option};
-ghost use Rattle.client_world.specs.Access.{place_of, may_touch};
-ghost use Rattle.client_world.specs.Soundness.{IsSound};
-ghost use Rattle.client_world.specs.World.{World};
-ghost use Rattle.client_world.specs.declared.host_frames.TheConstants.{PAGE_DIRECTORY};
-ghost use Rattle.client_world.specs.declared.registers.Mode.{Mode};
-ghost use Rattle.client_world.specs.declared.registers.Regs.{Regs};
-ghost use Rattle.client_world.specs.declared.registers.Width.{Width};
+ghost use Rattle.std.specs.{Prelude.{◌≡◌, ◌<◌, ◌^◌, ℕ, Bool, true, List}, declared.option.Option.{Option}};
+ghost use Rattle.client_world.specs.{Access.{place_of, may_touch}, Soundness.{IsSound}, World.{World}};
+ghost use Rattle.client_world.specs.{declared.host_frames.TheConstants.{PAGE_DIRECTORY}, declared.registers.Mode.{Mode}};
+ghost use Rattle.client_world.specs.{declared.registers.Regs.{Regs}, declared.registers.Width.{Width}};
 ghost use Rattle.page_tables.specs.Walk.{walked};
-ghost use Rattle.host_memory.specs.Holds.{Holds};
-ghost use Rattle.host_memory.specs.HoldsWorld.{HoldsWorld};
-ghost use Rattle.host_memory.specs.Law.{walk_result, StandsAt};
-ghost use Rattle.host_memory.specs.Layout.{world_of};
+ghost use Rattle.host_memory.specs.{Holds.{Holds}, HoldsWorld.{HoldsWorld}, Law.{walk_result, StandsAt}, Layout.{world_of}};
 
 /// A walk of the page tables of a memory that holds a sound world ends exactly where the client may touch, at the address of the place, and
 /// else fails as the place says. The world's byte at a place that the client may touch is at that address, in none of the host's frames.

@@ -1,11 +1,8 @@
 -- What a turn answers, by the exit that there is after it.
 use Rattle.std.proofs.Common.{◌≡◌, None, Some, Option, Ok, Err, sym, ap, subst}
-use Rattle.std.specs.Prelude.{IfErr, OnOk}
-use Rattle.std.specs.declared.result.Result.{Result}
+use Rattle.std.specs.{Prelude.{IfErr, OnOk}, declared.result.Result.{Result}}
 use Rattle.client_world.specs.declared.outcome.Exit.{Exit}
-use Rattle.host_run.specs.Footprint.{Footprint}
-use Rattle.host_run.specs.MakesTurn.{MakesTurn, turn_answer}
-use Rattle.host_run.specs.View.{HostView}
+use Rattle.host_run.specs.{Footprint.{Footprint}, MakesTurn.{MakesTurn, turn_answer}, View.{HostView}}
 
 answer_is : (r : Result (Unit {0}) Exit) (o : Option Exit) → OnOk r (o ≡ None) → IfErr r (λ exit. o ≡ Some exit) → r ≡ turn_answer o
 answer_is (Ok tt) o on ends = sym (ap turn_answer on)

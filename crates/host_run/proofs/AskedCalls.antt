@@ -1,9 +1,7 @@
 -- No function of INT 31h asks for a reflection.
 use Rattle.std.proofs.Common.{◌≡◌, ℕ, Bool, true, false, nat_eq, refl, subst, Option, None, Some}
 use Rattle.std.specs.Prelude.{if◌then◌else◌}
-use Rattle.client_world.specs.declared.calls.Call.{Call}
-use Rattle.client_world.specs.declared.calls.Call.TheVariants.{Int, Far, Iret}
-use Rattle.client_world.specs.Registers.{low_byte}
+use Rattle.client_world.specs.{declared.calls.Call.{Call}, declared.calls.Call.TheVariants.{Int, Far, Iret}, Registers.{low_byte}}
 use Rattle.client_world.specs.World.{World}
 use Rattle.host_run.specs.Turn.{asked_call}
 use Rattle.translation.specs.SimulatedCall.{is_reflection}

@@ -1,27 +1,19 @@
 -- The client's part of a turn changes its footprint alone.
 use Rattle.std.proofs.Common.{◌≡◌, ◌∙◌, ℕ, List, ap, refl, sym, subst, Result, Ok, Err}
 use Rattle.std.specs.Prelude.{MatchResult, OnOk}
-use Rattle.client_world.specs.declared.faults.Event.{Event}
-use Rattle.client_world.specs.declared.faults.Event.TheVariants as events
-use Rattle.client_world.specs.declared.faults.Fault.{Fault}
-use Rattle.client_world.specs.declared.outcome.Exit.{Exit}
-use Rattle.client_world.specs.declared.registers.Mode.{Mode}
-use Rattle.client_world.specs.declared.registers.Mode.TheVariants.{Real, Protected}
+use Rattle.client_world.specs.{declared.faults.Event.{Event}, declared.faults.Fault.{Fault}, declared.outcome.Exit.{Exit}}
+use Rattle.client_world.specs.{declared.registers.Mode.{Mode}, declared.registers.Mode.TheVariants.{Real, Protected}}
 use Rattle.cpu_step.specs.Step.{client_step}
-use Rattle.interrupts.specs.Delivery.{real_delivery, software_interrupt}
-use Rattle.interrupts.specs.Worlds.{world_interrupt, world_of_result}
+use Rattle.interrupts.specs.{Delivery.{real_delivery, software_interrupt}, Worlds.{world_interrupt, world_of_result}}
 use Rattle.interrupts.proofs.Alone.{interrupt_alone, step_alone}
 use Rattle.host_memory.specs.View.{MachineView}
 use Rattle.host_memory.proofs.OnlyAtLaws.{only_start}
-use Rattle.fault_service.specs.ByMode.{delivery}
-use Rattle.fault_service.specs.Delivery.{protected_delivery}
-use Rattle.fault_service.specs.Memory.{DeliveryLaw}
-use Rattle.fault_service.specs.StepMemory.{InterruptLaw, RealDeliveryLaw, StepLaw}
-use Rattle.host_run.specs.Turn.{Outcome}
-use Rattle.host_run.specs.View.{ComesTo, HostView, machine_view}
-use Rattle.host_run.specs.Footprint.{ChangesOnly, Footprint, at_places, at_places_and_row, unsaid, after_client_event}
-use Rattle.host_run.specs.Footprint.{after_client_interrupt, client_footprint, client_turn, delivery_footprint, event_footprint}
-use Rattle.host_run.specs.Footprint.{interrupt_footprint}
+use Rattle.fault_service.specs.{ByMode.{delivery}, Delivery.{protected_delivery}, Memory.{DeliveryLaw}, StepMemory.{InterruptLaw}}
+use Rattle.fault_service.specs.StepMemory.{RealDeliveryLaw, StepLaw}
+use Rattle.host_run.specs.{Turn.{Outcome}, View.{ComesTo, HostView, machine_view}, Footprint.{ChangesOnly, Footprint, at_places}}
+use Rattle.host_run.specs.Footprint.{at_places_and_row, unsaid, after_client_event, after_client_interrupt, client_footprint, client_turn}
+use Rattle.host_run.specs.Footprint.{delivery_footprint, event_footprint, interrupt_footprint}
+use Rattle.client_world.specs.declared.faults.Event.TheVariants as events
 
 -- what is known of the machine
 pub record HasLaws (v : MachineView) : Type 0 where

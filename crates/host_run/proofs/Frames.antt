@@ -1,26 +1,18 @@
 -- Frames that can be popped, and those that can't.
 use Rattle.std.proofs.Common.{◌≡◌, ◌≤◌, ℕ, List, length, true, false, nat_eq, nat_le, refl, sym, subst, ◌∙◌, ap, Ok, Err}
-use Rattle.std.specs.Prelude.{is_ok}
-use Rattle.std.specs.declared.result.Result.{Result}
-use Rattle.client_world.specs.declared.faults.Event.{Event}
-use Rattle.client_world.specs.declared.outcome.Exit.{Exit}
-use Rattle.client_world.specs.declared.outcome.Exit.TheVariants.{BadFrame, Deep}
-use Rattle.client_world.specs.declared.registers.Mode.TheVariants.{Real}
-use Rattle.client_world.specs.Soundness.{IsSound}
-use Rattle.client_world.specs.World.{World, HostWorld, depth}
-use Rattle.client_world.specs.declared.calls.Record.{Record}
+use Rattle.std.proofs.lemmas.Bool.{le-leb}
+use Rattle.std.specs.{Prelude.{is_ok}, declared.result.Result.{Result}}
+use Rattle.client_world.specs.{declared.faults.Event.{Event}, declared.outcome.Exit.{Exit}, declared.outcome.Exit.TheVariants.{BadFrame}}
+use Rattle.client_world.specs.{declared.outcome.Exit.TheVariants.{Deep}, declared.registers.Mode.TheVariants.{Real}, Soundness.{IsSound}}
+use Rattle.client_world.specs.{World.{World, HostWorld, depth}, declared.calls.Record.{Record}}
 use Rattle.client_world.specs.declared.limits.TheConstants.{GREATEST_DEPTH}
 use Rattle.interrupts.proofs.KeptWorlds.{kept_world_popped}
-use Rattle.std.proofs.lemmas.Bool.{le-leb}
 use Rattle.translation.specs.SimulatedCall.{reflect}
 use Rattle.dos_calls.specs.Kept.{HasSameStack}
-use Rattle.interrupts.specs.Delivery.{after_iret, result_of_pop}
-use Rattle.interrupts.specs.RealFrames.{frame_fits}
-use Rattle.interrupts.specs.Worlds.{world_of_result, world_after_iret}
+use Rattle.interrupts.specs.{Delivery.{after_iret, result_of_pop}, RealFrames.{frame_fits}, Worlds.{world_of_result, world_after_iret}}
 use Rattle.host_memory.specs.View.{MachineView}
-use Rattle.host_run.specs.declared.vectors.TheConstants.{DPMI_INTERRUPT}
-use Rattle.host_run.specs.Turn.{Outcome, ends, after_exit_call, after_protected_pop, after_protected_call, is_exit_call, is_presence_call}
-use Rattle.host_run.specs.Turn.{after_default_vector, after_real_vector}
+use Rattle.host_run.specs.{declared.vectors.TheConstants.{DPMI_INTERRUPT}, Turn.{Outcome, ends, after_exit_call, after_protected_pop}}
+use Rattle.host_run.specs.Turn.{after_protected_call, is_exit_call, is_presence_call, after_default_vector, after_real_vector}
 
 same_outcome : (r : Result MachineView Exit) → is_ok (world_of_result r) ≡ is_ok r
 same_outcome (Ok v) = refl

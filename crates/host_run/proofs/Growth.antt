@@ -2,51 +2,35 @@
 -- once.
 use Rattle.std.proofs.Common.{arith, ◌≡◌, ◌∙◌, ◌≤◌, ◌+◌, ◌-◌, ◌++◌, sym, ap, subst, ℕ, zero, suc, Bool, true, false, List, nat_eq, add-suc}
 use Rattle.std.proofs.Common.{add-zero, append_assoc, refl, Option, None, Some, Ok, Err}
-use Rattle.std.specs.Prelude.{if◌then◌else◌}
-use Rattle.std.specs.declared.result.Result.{Result}
-use Rattle.client_world.specs.declared.calls.Call.{Call}
-use Rattle.client_world.specs.declared.faults.Event.{Event}
-use Rattle.client_world.specs.declared.faults.Event.TheVariants as events
-use Rattle.client_world.specs.declared.faults.Fault.{Fault}
-use Rattle.client_world.specs.declared.outcome.Exit.{Exit}
-use Rattle.client_world.specs.declared.outcome.Exit.TheVariants as exits
-use Rattle.client_world.specs.declared.registers.Mode.{Mode}
-use Rattle.client_world.specs.declared.registers.Mode.TheVariants.{Real, Protected}
-use Rattle.client_world.specs.declared.services.Carry.{Carry}
-use Rattle.client_world.specs.declared.services.Carry.TheVariants.{Clear, Set}
-use Rattle.client_world.specs.declared.services.DosDone.{DosDone}
-use Rattle.client_world.specs.declared.services.DosDone.TheVariants as done
-use Rattle.client_world.specs.declared.trace.TraceLine.TheVariants as lines
-use Rattle.client_world.specs.Registers.{high_byte, low_half}
-use Rattle.client_world.specs.Services.{Served, is_set}
-use Rattle.client_world.specs.World.{World, HostWorld}
+use Rattle.std.specs.{Prelude.{if◌then◌else◌}, declared.result.Result.{Result}}
+use Rattle.client_world.specs.{declared.calls.Call.{Call}, declared.faults.Event.{Event}, declared.faults.Fault.{Fault}}
+use Rattle.client_world.specs.{declared.outcome.Exit.{Exit}, declared.registers.Mode.{Mode}, declared.registers.Mode.TheVariants.{Real}}
+use Rattle.client_world.specs.{declared.registers.Mode.TheVariants.{Protected}, declared.services.Carry.{Carry}}
+use Rattle.client_world.specs.{declared.services.Carry.TheVariants.{Clear, Set}, declared.services.DosDone.{DosDone}, Registers.{high_byte}}
+use Rattle.client_world.specs.{Registers.{low_half}, Services.{Served, is_set}, World.{World, HostWorld}, Console.{Extends}}
 use Rattle.callbacks.specs.Callbacks.{enter_callback, leave_callback}
-use Rattle.dos_calls.specs.Calls.{CallResult, dos_call}
-use Rattle.client_world.specs.Console.{Extends}
-use Rattle.dos_calls.specs.Multiplex.{multiplex_call}
-use Rattle.dos_calls.proofs.LeftCalls as left
+use Rattle.dos_calls.specs.{Calls.{CallResult, dos_call}, Multiplex.{multiplex_call}}
 use Rattle.interrupts.specs.Worlds.{world_step, world_interrupt, world_delivery, world_after_iret}
-use Rattle.mode_gates.specs.Entry.{entry}
-use Rattle.mode_gates.specs.FarFrames.{world_after_far_return}
-use Rattle.mode_gates.specs.Switches.{world_after_switch_to_protected}
+use Rattle.mode_gates.specs.{Entry.{entry}, FarFrames.{world_after_far_return}, Switches.{world_after_switch_to_protected}}
 use Rattle.fault_service.specs.Worlds.{world_exception_return, world_protected_delivery}
 use Rattle.translation.specs.SimulatedCall.{begin_call, end_call, reflect}
 use Rattle.host_run.specs.declared.vectors.TheConstants.{DOS_INTERRUPT, DPMI_INTERRUPT, MULTIPLEX_INTERRUPT, TERMINATE_INTERRUPT}
-use Rattle.host_run.specs.declared.traps.Trap.{Trap}
-use Rattle.host_run.specs.declared.traps.Trap.TheVariants.{RealVector, Entry, ToProtected, RealState, CallReturn, Callback, ProtectedVector}
-use Rattle.host_run.specs.declared.traps.Trap.TheVariants.{ExceptionHandler, ToReal, ProtectedState, ExceptionReturn, CallbackReturn}
-use Rattle.host_run.specs.declared.traps.Trap.TheVariants.{NoTrap}
-use Rattle.host_run.specs.Run.{turns, run}
-use Rattle.host_run.specs.Families.{service}
-use Rattle.host_run.specs.Traps.{current_trap}
-use Rattle.host_run.specs.Turn.{Outcome, ends, with_machine, with_trace_line, after_frame_pop, dos_call_state, after_dos_call}
-use Rattle.host_run.specs.Turn.{after_multiplex_call, ends_client, after_default_vector, after_entry, after_entry_trap}
+use Rattle.host_run.specs.{declared.traps.Trap.{Trap}, declared.traps.Trap.TheVariants.{RealVector, Entry, ToProtected, RealState}}
+use Rattle.host_run.specs.declared.traps.Trap.TheVariants.{CallReturn, Callback, ProtectedVector, ExceptionHandler, ToReal, ProtectedState}
+use Rattle.host_run.specs.{declared.traps.Trap.TheVariants.{ExceptionReturn, CallbackReturn, NoTrap}, Run.{turns, run}, Families.{service}}
+use Rattle.host_run.specs.{Traps.{current_trap}, Turn.{Outcome, ends, with_machine, with_trace_line, after_frame_pop, dos_call_state}}
+use Rattle.host_run.specs.Turn.{after_dos_call, after_multiplex_call, ends_client, after_default_vector, after_entry, after_entry_trap}
 use Rattle.host_run.specs.Turn.{after_switch_to_protected, is_exit_call, is_presence_call, asked_call, call_enter_line, after_begin}
 use Rattle.host_run.specs.Turn.{after_call_return, after_reflected_interrupt, after_service, goes_on_with, after_int31}
 use Rattle.host_run.specs.Turn.{after_protected_call, after_protected_pop, after_protected_vector, after_protected_delivery}
 use Rattle.host_run.specs.Turn.{after_exception_return, after_callback, after_callback_return, after_exception, after_exception_in_mode}
 use Rattle.host_run.specs.Turn.{after_interrupt, after_step, after_next_instruction, after_trap, work, with_turn_counted, after_outcome}
 use Rattle.host_run.specs.Turn.{turn}
+use Rattle.client_world.specs.declared.faults.Event.TheVariants as events
+use Rattle.client_world.specs.declared.outcome.Exit.TheVariants as exits
+use Rattle.client_world.specs.declared.services.DosDone.TheVariants as done
+use Rattle.client_world.specs.declared.trace.TraceLine.TheVariants as lines
+use Rattle.dos_calls.proofs.LeftCalls as left
 
 -- what the work of a turn makes of both
 pub record Grows (h : HostWorld) (o : Outcome) : Type 0 where

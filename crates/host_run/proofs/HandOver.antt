@@ -1,32 +1,19 @@
 -- Two matched turns hand over what the start and the return of a call or of an exception do, since the record of the first is that of the
 -- second.
-use Rattle.std.proofs.Common.{◌≡◌, ◌∙◌, inl, inr, ℕ, ◌+◌, List, [], ◌∷◌, ◌++◌, ap, sym, subst}
-use Rattle.std.proofs.lemmas.List.{same_from_push}
-use Rattle.client_world.specs.declared.calls.Call.{Call}
-use Rattle.client_world.specs.declared.calls.Call.TheVariants.{Int, Far, Iret, Reflect}
-use Rattle.client_world.specs.declared.calls.Record.{Record}
-use Rattle.client_world.specs.declared.calls.Record.TheVariants.{Sim, Back, Exc}
-use Rattle.client_world.specs.declared.segments.FarPtr.{FarPtr}
-use Rattle.client_world.specs.declared.services.Carry.TheVariants.{Clear}
-use Rattle.client_world.specs.Services.{Served, es_di}
-use Rattle.client_world.specs.Soundness.{IsSound}
-use Rattle.client_world.specs.World.{World, HostWorld}
+use Rattle.std.proofs.{Common.{◌≡◌, ◌∙◌, inl, inr, ℕ, ◌+◌, List, [], ◌∷◌, ◌++◌, ap, sym, subst}, lemmas.List.{same_from_push}}
+use Rattle.client_world.specs.{declared.calls.Call.{Call}, declared.calls.Call.TheVariants.{Int, Far, Iret, Reflect}}
+use Rattle.client_world.specs.{declared.calls.Record.{Record}, declared.calls.Record.TheVariants.{Sim, Back, Exc}}
+use Rattle.client_world.specs.{declared.segments.FarPtr.{FarPtr}, declared.services.Carry.TheVariants.{Clear}, Services.{Served, es_di}}
+use Rattle.client_world.specs.{Soundness.{IsSound}, World.{World, HostWorld}}
 use Rattle.interrupts.proofs.SoundAnswers.{sound_world_popped}
 use Rattle.callbacks.specs.HandOver.{HasEntered, HasLeft}
 use Rattle.callbacks.proofs.HandedOver.{has_entered, has_left}
-use Rattle.host_run.specs.HandOver.{HandsOver, HandsOverCall, HandsOverRealCall}
-use Rattle.host_run.specs.Keys.{HasKeys}
-use Rattle.host_run.specs.Nested.{IsHandedOver, PopsRecord, PushesRecord}
-use Rattle.host_run.specs.RealCalls.{InterruptSource, ReflectedFrom, ReturnsFromCall, StartsCall, StartsRealCall, from_anywhere}
-use Rattle.host_run.specs.RealCalls.{from_client, from_outside}
-use Rattle.host_run.specs.Run.{turns}
-use Rattle.host_run.proofs.HandedExceptions.{has_delivered, has_resumed}
-use Rattle.host_run.proofs.Sound.{turns_sound}
-use Rattle.translation.specs.HandOver.{HasBegun, HasEnded}
-use Rattle.translation.specs.SimulatedCall.{begin_call}
-use Rattle.translation.specs.Structure.{structure_bytes}
-use Rattle.translation.proofs.HandedOver.{has_begun, has_reflected}
-use Rattle.translation.proofs.ResultsBack.{has_ended}
+use Rattle.host_run.specs.{HandOver.{HandsOver, HandsOverCall, HandsOverRealCall}, Keys.{HasKeys}, Nested.{IsHandedOver, PopsRecord}}
+use Rattle.host_run.specs.{Nested.{PushesRecord}, RealCalls.{InterruptSource, ReflectedFrom, ReturnsFromCall, StartsCall, StartsRealCall}}
+use Rattle.host_run.specs.{RealCalls.{from_anywhere, from_client, from_outside}, Run.{turns}}
+use Rattle.host_run.proofs.{HandedExceptions.{has_delivered, has_resumed}, Sound.{turns_sound}}
+use Rattle.translation.specs.{HandOver.{HasBegun, HasEnded}, SimulatedCall.{begin_call}, Structure.{structure_bytes}}
+use Rattle.translation.proofs.{HandedOver.{has_begun, has_reflected}, ResultsBack.{has_ended}}
 
 -- a turn that adds a record, one that takes it away, and the records below it
 record Matches (source : InterruptSource) (w v x y : HostWorld) (r : Record) : Type 0 where

@@ -1,30 +1,21 @@
 -- A delivery leaves its frame at the handler's stack pointer, and a return takes what the frame then holds.
 use Rattle.std.proofs.Common.{◌≡◌, ◌∙◌, ℕ, Bool, true, false, [], ap, refl, sym, Option, None, Some, Result, Ok, Err}
 use Rattle.std.specs.Prelude.{if◌then◌else◌}
-use Rattle.client_world.specs.declared.faults.Event.{Event}
-use Rattle.client_world.specs.declared.faults.Fault.{Fault}
-use Rattle.client_world.specs.declared.outcome.Exit.TheVariants as exits
-use Rattle.client_world.specs.declared.registers.Mode.TheVariants.{Protected}
-use Rattle.client_world.specs.declared.segments.SegReg.TheVariants.{Cs, Ss}
-use Rattle.client_world.specs.Loading.{load_fault}
-use Rattle.client_world.specs.Registers.{low_half}
-use Rattle.client_world.specs.Soundness.{IsSound}
-use Rattle.client_world.specs.World.{World}
+use Rattle.client_world.specs.{declared.faults.Event.{Event}, declared.faults.Fault.{Fault}}
+use Rattle.client_world.specs.{declared.registers.Mode.TheVariants.{Protected}, declared.segments.SegReg.TheVariants.{Cs, Ss}}
+use Rattle.client_world.specs.{Loading.{load_fault}, Registers.{low_half}, Soundness.{IsSound}, World.{World}}
 use Rattle.exec_flow.specs.Interrupts.{frame_bits}
 use Rattle.interrupts.specs.Worlds.{view_without_bytes}
 use Rattle.interrupts.proofs.SoundAnswers.{holds_of_world}
 use Rattle.host_memory.specs.View.{MachineView}
-use Rattle.insn_plan.specs.Act.{Act, Input, Pending, Read, unless_fault, value_of}
-use Rattle.insn_plan.specs.Plan.{after_commit, after_plan, plan_result, with_state}
-use Rattle.insn_plan.specs.Stack.{stack_item}
+use Rattle.insn_plan.specs.{Act.{Act, Input, Pending, Read, unless_fault, value_of}, Plan.{after_commit, after_plan, plan_result}}
+use Rattle.insn_plan.specs.{Plan.{with_state}, Stack.{stack_item}}
 use Rattle.mode_stack.specs.Stack.{after_pop, top}
-use Rattle.fault_service.specs.Delivery.{protected_delivery}
-use Rattle.fault_service.specs.Return.{pending_of_exception_frame, exception_frame_pop, exception_return, is_exception}
-use Rattle.fault_service.specs.Return.{result_of_exception_pop}
-use Rattle.fault_service.specs.Worlds.{world_exception_return, world_protected_delivery}
-use Rattle.fault_service.proofs.Plans.{settled_is}
-use Rattle.fault_service.proofs.RoundTrip.{frame_law}
+use Rattle.fault_service.specs.{Delivery.{protected_delivery}, Return.{pending_of_exception_frame, exception_frame_pop, exception_return}}
+use Rattle.fault_service.specs.{Return.{is_exception, result_of_exception_pop}, Worlds.{world_exception_return, world_protected_delivery}}
+use Rattle.fault_service.proofs.{Plans.{settled_is}, RoundTrip.{frame_law}}
 use Rattle.host_run.specs.Exceptions.{HasDelivered, HasResumed}
+use Rattle.client_world.specs.declared.outcome.Exit.TheVariants as exits
 
 -- ---- a delivery
 

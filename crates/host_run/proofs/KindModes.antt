@@ -1,19 +1,16 @@
 -- The traps of a mode.
 use Rattle.std.proofs.Common.{◌≡◌, ℕ, ◌-◌, nat_eq, Bool, true, false, refl, subst, sym, Option, None, Some}
 use Rattle.std.specs.Prelude.{if◌then◌else◌}
-use Rattle.client_world.specs.declared.registers.Mode.{Mode}
-use Rattle.client_world.specs.declared.registers.Mode.TheVariants.{Real, Protected}
+use Rattle.client_world.specs.{declared.registers.Mode.{Mode}, declared.registers.Mode.TheVariants.{Real, Protected}}
 use Rattle.client_world.specs.declared.limits.TheConstants.{CALLBACKS, INTERRUPT_VECTORS, EXCEPTION_VECTORS}
 use Rattle.client_world.specs.declared.traps.TheConstants.{REAL_VECTOR_TRAPS, ENTRY_TRAP, SWITCH_TO_PROTECTED_TRAP, REAL_STATE_TRAP}
 use Rattle.client_world.specs.declared.traps.TheConstants.{CALL_RETURN_TRAP, CALLBACK_TRAPS, PROTECTED_VECTOR_TRAPS, EXCEPTION_TRAPS}
 use Rattle.client_world.specs.declared.traps.TheConstants.{SWITCH_TO_REAL_TRAP, PROTECTED_STATE_TRAP, EXCEPTION_RETURN_TRAP}
-use Rattle.client_world.specs.declared.traps.TheConstants.{CALLBACK_RETURN_TRAP}
-use Rattle.client_world.specs.World.{World}
-use Rattle.host_run.specs.declared.traps.Trap.{Trap}
-use Rattle.host_run.specs.declared.traps.Trap.TheVariants.{RealVector, Entry, ToProtected, RealState, CallReturn, Callback, ProtectedVector}
-use Rattle.host_run.specs.declared.traps.Trap.TheVariants.{ExceptionHandler, ToReal, ProtectedState, ExceptionReturn, CallbackReturn}
-use Rattle.host_run.specs.declared.traps.Trap.TheVariants.{NoTrap}
-use Rattle.host_run.specs.Traps.{is_among, code_linear, protected_trap_at, real_trap_at, current_trap, trap_where}
+use Rattle.client_world.specs.{declared.traps.TheConstants.{CALLBACK_RETURN_TRAP}, World.{World}}
+use Rattle.host_run.specs.{declared.traps.Trap.{Trap}, declared.traps.Trap.TheVariants.{RealVector, Entry, ToProtected, RealState}}
+use Rattle.host_run.specs.declared.traps.Trap.TheVariants.{CallReturn, Callback, ProtectedVector, ExceptionHandler, ToReal, ProtectedState}
+use Rattle.host_run.specs.{declared.traps.Trap.TheVariants.{ExceptionReturn, CallbackReturn, NoTrap}, Traps.{is_among, code_linear}}
+use Rattle.host_run.specs.Traps.{protected_trap_at, real_trap_at, current_trap, trap_where}
 
 -- a trap that is served in one mode is reached in that mode alone
 abbrev pub Suits : Mode → Trap → Type 0

@@ -1,17 +1,12 @@
 -- Nested calls return in order: inductions over the turns of a run, by how each turn changes the depth.
 use Rattle.std.proofs.Common.{◌≡◌, ℕ, zero, suc, ◌+◌, ◌-◌, ◌<◌, ◌≤◌, ◌⊎◌, [], ◌∷◌, ◌++◌, length, take, refl, sym, ap, subst, ◌∙◌, inl, inr}
-use Rattle.std.proofs.Common.{arith}
-use Rattle.std.proofs.lemmas.List.{take-append-le, length_push, same_from_push}
-use Rattle.std.proofs.Math.Seq.{take-length}
+use Rattle.std.proofs.{Common.{arith}, lemmas.List.{take-append-le, length_push, same_from_push}, Math.Seq.{take-length}}
 use Rattle.std.proofs.lemmas.Bool.{cases_lt}
-use Rattle.client_world.specs.declared.calls.Call.{Call}
-use Rattle.client_world.specs.declared.calls.Call.TheVariants.{Int, Far, Iret, Reflect}
-use Rattle.client_world.specs.declared.calls.Record.{Record}
-use Rattle.client_world.specs.declared.calls.Record.TheVariants.{Sim, Back, Exc}
-use Rattle.client_world.specs.World.{HostWorld, World}
+use Rattle.client_world.specs.{declared.calls.Call.{Call}, declared.calls.Call.TheVariants.{Int, Far, Iret, Reflect}}
+use Rattle.client_world.specs.{declared.calls.Record.{Record}, declared.calls.Record.TheVariants.{Sim, Back, Exc}, World.{HostWorld, World}}
 use Rattle.host_run.specs.Nested.{PushesRecord, HasTurns, IsHandedOver, LastPush, PopsRecord, Matched, Stacked, host_depth, kept, popped}
-use Rattle.host_run.specs.Nested.{pushed}
-use Rattle.host_run.specs.RealCalls.{InterruptSource, ReflectedFrom, StartsRealCall, from_anywhere, from_client, from_outside}
+use Rattle.host_run.specs.{Nested.{pushed}, RealCalls.{InterruptSource, ReflectedFrom, StartsRealCall, from_anywhere, from_client}}
+use Rattle.host_run.specs.RealCalls.{from_outside}
 
 -- a turn that stays above a depth keeps the records up to it
 pub turn_stays : {source : InterruptSource} (w v : HostWorld) (n : ℕ) → Stacked source w v → n ≤ host_depth w → n ≤ host_depth v →

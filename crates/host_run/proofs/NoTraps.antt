@@ -1,22 +1,15 @@
 -- Below and above read-only memory there is no trap.
 use Rattle.std.proofs.Common.{◌∙◌, ap, ◌≡◌, inl, inr, ℕ, ◌+◌, ◌%◌, ◌^◌, ◌<◌, ◌≤◌, false, refl, subst, arith, None, Some, Result, Ok, Err}
 use Rattle.std.proofs.lemmas.Bool.{cases_lt}
-use Rattle.client_world.specs.declared.faults.Fault.{Fault}
-use Rattle.client_world.specs.declared.host_frames.TheConstants.{PAGE_SIZE}
-use Rattle.client_world.specs.declared.memory_map.TheConstants.{DOS_SIZE, ROM_START}
-use Rattle.client_world.specs.declared.registers.Mode.{Mode}
-use Rattle.client_world.specs.declared.registers.Mode.TheVariants.{Real, Protected}
-use Rattle.client_world.specs.declared.segments.SegReg.TheVariants.{Cs}
-use Rattle.client_world.specs.Access.{linear}
-use Rattle.client_world.specs.World.{World}
+use Rattle.client_world.specs.{declared.faults.Fault.{Fault}, declared.host_frames.TheConstants.{PAGE_SIZE}}
+use Rattle.client_world.specs.{declared.memory_map.TheConstants.{DOS_SIZE, ROM_START}, declared.registers.Mode.{Mode}}
+use Rattle.client_world.specs.{declared.registers.Mode.TheVariants.{Real, Protected}, declared.segments.SegReg.TheVariants.{Cs}}
+use Rattle.client_world.specs.{Access.{linear}, World.{World}}
 use Rattle.cpu_step.proofs.Joined.{base_first}
-use Rattle.guest_space.specs.Code.{code_byte}
-use Rattle.guest_space.specs.declared.windows.CodeWindow.{CodeWindow}
-use Rattle.guest_space.specs.SegmentRows.{first_byte}
-use Rattle.host_run.specs.declared.traps.Trap.TheVariants.{NoTrap}
-use Rattle.host_run.specs.Windows.{IsOutside, IsStart, IsTrapFree}
+use Rattle.guest_space.specs.{Code.{code_byte}, declared.windows.CodeWindow.{CodeWindow}, SegmentRows.{first_byte}}
+use Rattle.host_run.specs.{declared.traps.Trap.TheVariants.{NoTrap}, Windows.{IsOutside, IsStart, IsTrapFree}, Traps.{address_in}}
+use Rattle.host_run.specs.Traps.{code_address, code_linear, protected_trap_at, real_trap_at, current_trap, trap_at, trap_where}
 use Rattle.host_memory.specs.View.{MachineView}
-use Rattle.host_run.specs.Traps.{address_in, code_address, code_linear, protected_trap_at, real_trap_at, current_trap, trap_at, trap_where}
 
 real_none : (at : ℕ) → IsOutside at → real_trap_at at ≡ NoTrap
 unfolding real_trap_at

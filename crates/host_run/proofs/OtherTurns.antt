@@ -1,31 +1,21 @@
 -- What the turns keep that are made in place of the host's own.
 use Rattle.std.proofs.Common.{arith, ◌≡◌, ap, ℕ, Bool, true, false, refl, Option, None, Some, Ok, Err}
-use Rattle.std.specs.Prelude.{IfOk, IsSome, if◌then◌else◌}
-use Rattle.std.specs.declared.result.Result.{Result}
-use Rattle.client_world.specs.declared.faults.Fault.{Fault}
-use Rattle.client_world.specs.declared.outcome.Exit.{Exit}
-use Rattle.client_world.specs.declared.outcome.Exit.TheVariants.{Bound}
-use Rattle.client_world.specs.declared.registers.Mode.{Mode}
-use Rattle.client_world.specs.declared.registers.Mode.TheVariants.{Real, Protected}
-use Rattle.client_world.specs.declared.registers.Regs.{Regs}
-use Rattle.client_world.specs.declared.services.Carry.{Carry}
-use Rattle.client_world.specs.Registers.{low_half}
-use Rattle.client_world.specs.Soundness.{IsSound, IsSoundHost}
-use Rattle.client_world.specs.World.{World, HostWorld}
+use Rattle.std.specs.{Prelude.{IfOk, IsSome, if◌then◌else◌}, declared.result.Result.{Result}}
+use Rattle.client_world.specs.{declared.faults.Fault.{Fault}, declared.outcome.Exit.{Exit}, declared.outcome.Exit.TheVariants.{Bound}}
+use Rattle.client_world.specs.{declared.registers.Mode.{Mode}, declared.registers.Mode.TheVariants.{Real, Protected}}
+use Rattle.client_world.specs.{declared.registers.Regs.{Regs}, declared.services.Carry.{Carry}, Registers.{low_half}, Soundness.{IsSound}}
+use Rattle.client_world.specs.{Soundness.{IsSoundHost}, World.{World, HostWorld}}
 use Rattle.client_world.proofs.SoundWrites.{IsSound-vif}
 use Rattle.interrupts.specs.Worlds.{world_delivery, world_interrupt, world_after_iret}
-use Rattle.interrupts.proofs.KeptWorlds.{kept_world_interrupt, kept_world_popped}
-use Rattle.interrupts.proofs.SoundAnswers.{sound_world_interrupt, sound_world_popped}
+use Rattle.interrupts.proofs.{KeptWorlds.{kept_world_interrupt, kept_world_popped}, SoundAnswers.{sound_world_interrupt}}
+use Rattle.interrupts.proofs.SoundAnswers.{sound_world_popped}
 use Rattle.fault_service.specs.Worlds.{world_protected_delivery}
 use Rattle.translation.specs.SimulatedCall.{reflect}
-use Rattle.host_run.specs.Keys.{HasKeys}
-use Rattle.host_run.specs.Nested.{Stacked, kept}
-use Rattle.host_run.specs.OtherTurns.{IsOneQuietTurn, after_answer, with_answer, exception_turn, int31_turn, interrupt_turn}
-use Rattle.host_run.specs.OtherTurns.{after_interrupt_in_mode, is_hosts_vector, with_interrupts_off}
-use Rattle.host_run.specs.RealCalls.{InterruptSource, from_client, from_outside}
-use Rattle.host_run.specs.Run.{with_bound_exit}
-use Rattle.host_run.specs.Turn.{Outcome, after_interrupt, after_protected_delivery, after_reflected_interrupt, after_exception_in_mode}
-use Rattle.host_run.specs.Turn.{after_outcome, with_machine, with_turn_counted}
+use Rattle.host_run.specs.{Keys.{HasKeys}, Nested.{Stacked, kept}, OtherTurns.{IsOneQuietTurn, after_answer, with_answer, exception_turn}}
+use Rattle.host_run.specs.OtherTurns.{int31_turn, interrupt_turn, after_interrupt_in_mode, is_hosts_vector, with_interrupts_off}
+use Rattle.host_run.specs.{RealCalls.{InterruptSource, from_client, from_outside}, Run.{with_bound_exit}, Turn.{Outcome, after_interrupt}}
+use Rattle.host_run.specs.Turn.{after_protected_delivery, after_reflected_interrupt, after_exception_in_mode, after_outcome, with_machine}
+use Rattle.host_run.specs.Turn.{with_turn_counted}
 use Rattle.host_run.proofs.TurnLaws.{IsNext, IsReached, KeepsTurn, TurnKeeps, answer_next, counted_reached, delivered_keeps}
 use Rattle.host_run.proofs.TurnLaws.{interrupted_keeps, reflection_by, same_machine, service_keeps, settled_keeps, stops_same}
 use Rattle.host_run.proofs.TurnLaws.{with_regs_sound}

@@ -1,25 +1,18 @@
 -- A frame that is popped in protected mode leaves the virtual interrupt flag.
 use Rattle.std.proofs.Common.{◌≡◌, ℕ, Bool, true, refl, Option, None, Some, Result, Ok, Err}
-use Rattle.client_world.specs.declared.faults.Event.{Event}
-use Rattle.client_world.specs.declared.faults.Event.TheVariants.{Fault as fault}
-use Rattle.client_world.specs.declared.faults.Fault.{Fault}
-use Rattle.client_world.specs.declared.registers.Mode.{Mode}
-use Rattle.client_world.specs.declared.registers.Mode.TheVariants.{Real, Protected}
-use Rattle.client_world.specs.Loading.{transfer_fault}
-use Rattle.client_world.specs.Registers.{low_half}
+use Rattle.client_world.specs.{declared.faults.Event.{Event}, declared.faults.Event.TheVariants.{Fault as fault}}
+use Rattle.client_world.specs.{declared.faults.Fault.{Fault}, declared.registers.Mode.{Mode}, declared.registers.Mode.TheVariants.{Real}}
+use Rattle.client_world.specs.{declared.registers.Mode.TheVariants.{Protected}, Loading.{transfer_fault}, Registers.{low_half}}
 use Rattle.client_world.specs.World.{World}
-use Rattle.exec_flow.specs.FarTransfers.{far_transfer, interrupt_frame_pop}
-use Rattle.exec_flow.specs.FlagImages.{with_popped_flags}
-use Rattle.exec_flow.specs.Interrupts.{frame_bits}
-use Rattle.interrupts.specs.Delivery.{after_iret}
-use Rattle.interrupts.specs.Worlds.{view_without_bytes, world_after_iret}
-use Rattle.interrupts.proofs.ReturnPlans.{left, with_cs, with_image, with_ip}
-use Rattle.interrupts.proofs.SoundAnswers.{granted_was, holds_of_answer, holds_of_world, return_was}
+use Rattle.exec_flow.specs.{FarTransfers.{far_transfer, interrupt_frame_pop}, FlagImages.{with_popped_flags}, Interrupts.{frame_bits}}
+use Rattle.interrupts.specs.{Delivery.{after_iret}, Worlds.{view_without_bytes, world_after_iret}}
+use Rattle.interrupts.proofs.{ReturnPlans.{left, with_cs, with_image, with_ip}, SoundAnswers.{granted_was, holds_of_answer, holds_of_world}}
+use Rattle.interrupts.proofs.SoundAnswers.{return_was}
 use Rattle.guest_space.specs.Pending.{after_writes, first_write_fault}
 use Rattle.host_memory.specs.View.{MachineView}
-use Rattle.insn_plan.specs.Act.{Act, Input, Pending, Read, done, unless_fault, value_of}
-use Rattle.insn_plan.specs.Plan.{after_commit, after_plan, plan_result, with_state}
-use Rattle.insn_plan.specs.Stack.{stack_item}
+use Rattle.insn_plan.specs.{Act.{Act, Input, Pending, Read, done, unless_fault, value_of}, Plan.{after_commit, after_plan, plan_result}}
+use Rattle.insn_plan.specs.{Plan.{with_state}, Stack.{stack_item}}
+use Rattle.mode_gates.proofs.FarStates.{settled_flag}
 
 -- a plan leaves the flag, where there is one
 abbrev LeavesInterrupts : World → Result Pending Event → Type 0
@@ -60,17 +53,10 @@ frame_leaves w bits mode =
     read_leaves w (stack_item w bits 2) (with_image w bits ip cs) (λ image.
     transfer_leaves w (low_half cs) ip true (left w bits image) (flag_left w bits image mode))))
 
-settled_leaves : (v u : MachineView) (p : Pending) → p.vif ≡ v.world.vif → after_commit v p ≡ Ok u → u.world.vif ≡ v.world.vif
-unfolding after_commit
-settled_leaves v u p same e =
-    let x = with_state p.regs p.vif (after_writes v p.writes) in
-    holds_of_answer (λ (m : MachineView). m.world.vif ≡ v.world.vif) (Ok x) u same
-    (granted_was fault (first_write_fault v.world p.writes) (Ok x) u e)
-
 carried_leaves : (v u : MachineView) (r : Result Pending Event) → LeavesInterrupts v.world r → after_plan v r ≡ Ok u →
     u.world.vif ≡ v.world.vif
 unfolding after_plan
-carried_leaves v u (Ok p) same e = settled_leaves v u p same e
+carried_leaves v u (Ok p) same e = settled_flag v u p same e
 carried_leaves v u (Err f) same e = absurd cc
 
 machine_popped : (v u : MachineView) → v.world.mode ≡ Protected → after_iret v ≡ Ok u → u.world.vif ≡ v.world.vif

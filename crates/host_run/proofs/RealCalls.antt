@@ -1,9 +1,7 @@
 -- The innermost record, where the records are some with one more.
-use Rattle.std.proofs.Common.{arith, ◌≡◌, ◌∙◌, ◌-◌, List, [], ◌∷◌, ◌++◌, length, ap, refl, Some}
-use Rattle.std.proofs.lemmas.List.{length_push}
+use Rattle.std.proofs.{Common.{arith, ◌≡◌, ◌∙◌, ◌-◌, List, [], ◌∷◌, ◌++◌, length, ap, refl, Some}, lemmas.List.{length_push}}
 use Rattle.std.specs.List.{slice_get}
-use Rattle.client_world.specs.declared.calls.Record.{Record}
-use Rattle.client_world.specs.World.{World}
+use Rattle.client_world.specs.{declared.calls.Record.{Record}, World.{World}}
 use Rattle.mode_stack.specs.Stack.{top}
 
 last_of : (calls : List Record) (r : Record) → slice_get (calls ++ r ∷ []) (length calls) ≡ Some r

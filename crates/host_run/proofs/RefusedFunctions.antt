@@ -2,18 +2,15 @@
 use Rattle.std.proofs.Common.{◌≡◌, ◌≢◌, ℕ, Option, None, Some, refl}
 use Rattle.block_services.specs.Rows.{block_function, block_service}
 use Rattle.callbacks.specs.Services.{callback_function, callback_service}
-use Rattle.client_world.specs.declared.services.Carry.TheVariants.{Set}
-use Rattle.client_world.specs.Services.{Served}
-use Rattle.client_world.specs.World.{World}
+use Rattle.client_world.specs.{declared.services.Carry.TheVariants.{Set}, Services.{Served}, World.{World}}
 use Rattle.desc_services.specs.Rows.{descriptor_function, descriptor_service}
 use Rattle.dos_blocks.proofs.RefusedServices.{refused_service}
 use Rattle.mode_gates.specs.Switches.{gate_function, gate_service}
 use Rattle.vector_services.specs.Rows.{vector_function, vector_service}
 use Rattle.service_rows.specs.Reasons.{HasOtherAx, HasOtherAxAndBx, Service, family_outcome, first_reason}
 use Rattle.service_rows.proofs.AnswerLaws.{ax_and_bx, refused_by_family}
-use Rattle.host_run.specs.declared.families.Family.{Family}
-use Rattle.host_run.specs.declared.families.Family.TheVariants.{Descriptors, DosMemory, Vectors, Callbacks, Gates, Blocks}
-use Rattle.host_run.specs.Families.{family_of, service, service_of}
+use Rattle.host_run.specs.{declared.families.Family.{Family}, declared.families.Family.TheVariants.{Descriptors, DosMemory, Vectors}}
+use Rattle.host_run.specs.{declared.families.Family.TheVariants.{Callbacks, Gates, Blocks}, Families.{family_of, service, service_of}}
 
 abbrev Refuses : World → Served → Type 0
 Refuses w s = s.carry ≡ Set → HasOtherAx w s.world

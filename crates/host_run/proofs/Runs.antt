@@ -1,12 +1,9 @@
 -- Turns after an exit change nothing.
 use Rattle.std.proofs.Common.{arith, ◌≡◌, ◌≤◌, ◌<◌, ◌+◌, ◌-◌, ℕ, None, Some, zero, suc, refl, sym, ◌∙◌, ap, subst, add-zero, add-suc}
 use Rattle.std.proofs.Common.{add-one}
-use Rattle.std.specs.Prelude.{IsSome}
-use Rattle.std.specs.declared.option.Option.{Option}
-use Rattle.client_world.specs.declared.outcome.Exit.{Exit}
-use Rattle.client_world.specs.World.{HostWorld}
-use Rattle.host_run.specs.Turn.{turn}
-use Rattle.host_run.specs.Run.{turns, run, with_bound_exit}
+use Rattle.std.specs.{Prelude.{IsSome}, declared.option.Option.{Option}}
+use Rattle.client_world.specs.{declared.outcome.Exit.{Exit}, World.{HostWorld}}
+use Rattle.host_run.specs.{Turn.{turn}, Run.{turns, run, with_bound_exit}}
 
 turn_stops : (w : HostWorld) (e : Exit) → w.exit ≡ Some e → turn w ≡ w
 unfolding turn

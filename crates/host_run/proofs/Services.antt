@@ -1,30 +1,25 @@
 -- The functions of INT 31h: each family keeps a world sound, and the records of calls.
 use Rattle.std.proofs.Common.{◌≡◌, ℕ, Option, None, Some, ap, refl}
 use Rattle.block_services.specs.Rows.{block_service}
-use Rattle.block_services.proofs.KeptServices as block_kept
-use Rattle.block_services.proofs.SoundServices as block_sound
 use Rattle.callbacks.specs.Services.{callback_service}
-use Rattle.callbacks.proofs.Served as callback_laws
-use Rattle.client_world.specs.declared.registers.Mode.TheVariants.{Protected}
-use Rattle.client_world.specs.Services.{Served}
-use Rattle.client_world.specs.Soundness.{IsSound}
-use Rattle.client_world.specs.World.{World}
+use Rattle.client_world.specs.{declared.registers.Mode.TheVariants.{Protected}, Services.{Served}, Soundness.{IsSound}, World.{World}}
 use Rattle.desc_services.specs.Rows.{descriptor_service}
 use Rattle.dos_blocks.specs.Services.{dos_service}
+use Rattle.mode_gates.specs.Switches.{gate_service}
+use Rattle.vector_services.specs.Rows.{vector_service}
+use Rattle.service_rows.specs.{declared.refusal.Refusal.TheVariants.{Unsupported}, Reasons.{refusal_answer}}
+use Rattle.service_rows.proofs.AnswerLaws.{sound_ax}
+use Rattle.host_run.specs.{declared.families.Family.{Family}, declared.families.Family.TheVariants.{Descriptors, DosMemory, Vectors}}
+use Rattle.host_run.specs.{declared.families.Family.TheVariants.{Callbacks, Gates, Blocks}, Families.{family_of, service, service_of}}
+use Rattle.block_services.proofs.KeptServices as block_kept
+use Rattle.block_services.proofs.SoundServices as block_sound
+use Rattle.callbacks.proofs.Served as callback_laws
 use Rattle.dos_blocks.proofs.ServiceLaws as dos_laws
 use Rattle.desc_services.proofs.KeptServices as descriptor_kept
 use Rattle.desc_services.proofs.SoundServices as descriptor_sound
-use Rattle.mode_gates.specs.Switches.{gate_service}
 use Rattle.mode_gates.proofs.SwitchLaws as gate_laws
-use Rattle.vector_services.specs.Rows.{vector_service}
 use Rattle.vector_services.proofs.KeptServices as vector_kept
 use Rattle.vector_services.proofs.SoundServices as vector_sound
-use Rattle.service_rows.specs.declared.refusal.Refusal.TheVariants.{Unsupported}
-use Rattle.service_rows.specs.Reasons.{refusal_answer}
-use Rattle.service_rows.proofs.AnswerLaws.{sound_ax}
-use Rattle.host_run.specs.declared.families.Family.{Family}
-use Rattle.host_run.specs.declared.families.Family.TheVariants.{Descriptors, DosMemory, Vectors, Callbacks, Gates, Blocks}
-use Rattle.host_run.specs.Families.{family_of, service, service_of}
 
 -- what holds of each family's service, and of the refusal of other numbers, holds of the one that is chosen
 of_family : (P : Served → Type 0) (o : Option Family) (ax : ℕ) (w : World) →

@@ -1,24 +1,16 @@
 -- What crates above may cite of a run: from a sound world with keys that are bytes each turn leads to such a one and leaves the records of
 -- calls or adds or takes away the innermost one.
 use Rattle.std.proofs.Common.{arith, ◌≡◌, ◌≢◌, ◌≤◌, ◌+◌, ◌*◌, ℕ, zero, suc, List, None, Some, refl, sym, subst}
-use Rattle.std.specs.Prelude.{IsSome}
-use Rattle.std.specs.declared.option.Option.{Option}
-use Rattle.client_world.specs.declared.outcome.Exit.{Exit}
-use Rattle.client_world.specs.declared.outcome.Exit.TheVariants.{Bound, ConsoleFull}
-use Rattle.client_world.specs.Soundness.{IsSound, IsSoundHost}
-use Rattle.client_world.specs.World.{HostWorld}
+use Rattle.std.specs.{Prelude.{IsSome}, declared.option.Option.{Option}}
+use Rattle.client_world.specs.{declared.outcome.Exit.{Exit}, declared.outcome.Exit.TheVariants.{Bound, ConsoleFull}, Soundness.{IsSound}}
+use Rattle.client_world.specs.{Soundness.{IsSoundHost}, World.{HostWorld}}
 use Rattle.guest_ram.specs.Bytes.{AreBytes}
 use Rattle.host_memory.proofs.BlankSound.{blank_is_sound}
 use Rattle.mz_loader.specs.Refusal.{refusal}
 use Rattle.mz_loader.proofs.SoundStart.{sound_start}
-use Rattle.host_run.specs.Keys.{HasKeys}
-use Rattle.host_run.specs.Nested.{Stacked}
-use Rattle.host_run.specs.RealCalls.{from_client}
-use Rattle.host_run.specs.Start.{blank, host_at_start}
-use Rattle.host_run.specs.Run.{turns, run}
+use Rattle.host_run.specs.{Keys.{HasKeys}, Nested.{Stacked}, RealCalls.{from_client}, Start.{blank, host_at_start}, Run.{turns, run}}
 use Rattle.host_run.specs.Turn.{turn}
-use Rattle.host_run.proofs.Runs.{turns_more}
-use Rattle.host_run.proofs.TurnLaws.{IsReached, LeavesAll, LeavesBy, turn_keeps}
+use Rattle.host_run.proofs.{Runs.{turns_more}, TurnLaws.{IsReached, LeavesAll, LeavesBy, turn_keeps}}
 
 -- the trace has two lines for each turn at most
 abbrev pub HasFewLines : HostWorld → Type 0

@@ -1,24 +1,14 @@
 -- The places that turns touch are the client's, and each byte that the client's instruction changes is that of such a place.
-use Rattle.std.proofs.Common.{◌≡◌, ◌∙◌, ℕ, List, [], ap, refl, subst, sym, None, Some, Result, Ok, Err}
-use Rattle.std.specs.Prelude.{All, Contains}
-use Rattle.std.proofs.lemmas.List.Elements.{All-nil}
-use Rattle.std.specs.declared.option.Option.{Option}
-use Rattle.client_world.specs.declared.faults.Event.{Event}
-use Rattle.client_world.specs.declared.faults.Event.TheVariants.{Soft}
-use Rattle.client_world.specs.declared.outcome.Exit.{Exit}
-use Rattle.client_world.specs.declared.place.Place.{Place}
-use Rattle.client_world.specs.Access.{IsHeld}
-use Rattle.client_world.specs.World.{World, HostWorld}
-use Rattle.cpu_step.specs.Step.{client_step}
-use Rattle.cpu_step.specs.Touched.{touched_by_step as step_touches}
-use Rattle.interrupts.specs.Delivery.{software_interrupt}
-use Rattle.interrupts.specs.Worlds.{view_without_bytes, world_of_result, world_interrupt, world_step}
+use Rattle.std.proofs.{Common.{◌≡◌, ◌∙◌, ℕ, List, [], ap, refl, subst, sym, None, Some, Result, Ok, Err}, lemmas.List.Elements.{All-nil}}
+use Rattle.std.specs.{Prelude.{All, Contains}, declared.option.Option.{Option}}
+use Rattle.client_world.specs.{declared.faults.Event.{Event}, declared.faults.Event.TheVariants.{Soft}, declared.outcome.Exit.{Exit}}
+use Rattle.client_world.specs.{declared.place.Place.{Place}, Access.{IsHeld}, World.{World, HostWorld}}
+use Rattle.cpu_step.specs.{Step.{client_step}, Touched.{touched_by_step as step_touches}}
+use Rattle.interrupts.specs.{Delivery.{software_interrupt}, Worlds.{view_without_bytes, world_of_result, world_interrupt, world_step}}
 use Rattle.interrupts.proofs.SoundAnswers.{holds_of_world}
 use Rattle.host_memory.specs.View.{MachineView}
 use Rattle.fault_service.specs.StepMemory.{interrupt_places, written_places}
-use Rattle.host_run.specs.declared.traps.Trap.{Trap}
-use Rattle.host_run.specs.declared.traps.Trap.TheVariants.{NoTrap}
-use Rattle.host_run.specs.Touched.{touched_by_turn, unless_trapped}
+use Rattle.host_run.specs.{declared.traps.Trap.{Trap}, declared.traps.Trap.TheVariants.{NoTrap}, Touched.{touched_by_turn, unless_trapped}}
 use Rattle.host_run.specs.Traps.{current_trap}
 
 unless_held : (w : World) (t : Trap) → All (IsHeld w) (step_touches w) → All (IsHeld w) (unless_trapped w t)

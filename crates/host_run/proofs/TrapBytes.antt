@@ -1,47 +1,33 @@
 -- A trap byte is HLT, which raises a general protection exception: no client instruction runs there.
 use Rattle.std.proofs.Common.{arith, ◌≡◌, ◌≢◌, ◌∙◌, ◌≤◌, ◌<◌, ◌+◌, ◌%◌, ◌^◌, ℕ, Bool, true, false, not, List, [], ◌∷◌, slice_index, nat_le}
-use Rattle.std.proofs.Common.{nat_lt, if◌then◌else◌, inl, inr, refl, sym, ap, subst, None, Some, Result, Ok, Err}
-use Rattle.std.proofs.lemmas.Bool.{cases_lt, lt-ltb}
-use Rattle.client_world.specs.declared.faults.Event.TheVariants.{Fault as fault}
-use Rattle.client_world.specs.declared.faults.Fault.{Fault}
-use Rattle.client_world.specs.declared.faults.TheConstants.{GENERAL_PROTECTION}
-use Rattle.client_world.specs.declared.memory_map.TheConstants.{DOS_SIZE, DOS_VIEW_END, ROM_BYTE, ROM_START, SEGMENT_SIZE}
-use Rattle.client_world.specs.declared.place.Place.{Place}
-use Rattle.client_world.specs.declared.place.Place.TheVariants.{Dos}
-use Rattle.client_world.specs.declared.registers.Mode.{Mode}
-use Rattle.client_world.specs.declared.registers.Mode.TheVariants.{Real, Protected}
-use Rattle.client_world.specs.declared.registers.Regs.{Regs}
-use Rattle.client_world.specs.declared.segments.SegReg.TheVariants.{Cs}
-use Rattle.client_world.specs.Access.{base_in_row, byte_of, fault_with, linear, may_touch, place_in, places_from, segment_base}
-use Rattle.client_world.specs.Access.{unless_forbidden}
-use Rattle.client_world.specs.Descriptor.{is_code, is_inside}
-use Rattle.client_world.specs.Selector.{Row, is_null, row_of_selector}
-use Rattle.client_world.specs.Soundness.{IsSound}
-use Rattle.client_world.specs.World.{World}
+use Rattle.std.proofs.{Common.{nat_lt, if◌then◌else◌, inl, inr, refl, sym, ap, subst, None, Some, Result, Ok, Err}, lemmas.Bool.{cases_lt}}
+use Rattle.std.proofs.lemmas.Bool.{lt-ltb}
+use Rattle.client_world.specs.{declared.faults.Event.TheVariants.{Fault as fault}, declared.faults.Fault.{Fault}}
+use Rattle.client_world.specs.{declared.faults.TheConstants.{GENERAL_PROTECTION}, declared.memory_map.TheConstants.{DOS_SIZE, DOS_VIEW_END}}
+use Rattle.client_world.specs.{declared.memory_map.TheConstants.{ROM_BYTE, ROM_START, SEGMENT_SIZE}, declared.place.Place.{Place}}
+use Rattle.client_world.specs.{declared.place.Place.TheVariants.{Dos}, declared.registers.Mode.{Mode}}
+use Rattle.client_world.specs.{declared.registers.Mode.TheVariants.{Real, Protected}, declared.registers.Regs.{Regs}}
+use Rattle.client_world.specs.{declared.segments.SegReg.TheVariants.{Cs}, Access.{base_in_row, byte_of, fault_with, linear, may_touch}}
+use Rattle.client_world.specs.{Access.{place_in, places_from, segment_base, unless_forbidden}, Descriptor.{is_code, is_inside}}
+use Rattle.client_world.specs.{Selector.{Row, is_null, row_of_selector}, Soundness.{IsSound}, World.{World}}
 use Rattle.cpu_step.specs.Step.{client_row, client_step, after_instruction, has_big_code, step_of}
 use Rattle.exec_core.specs.Dispatch.{is_core}
-use Rattle.exec_flow.specs.Dispatch.{flow_row}
-use Rattle.exec_flow.specs.Raising.{privileged}
+use Rattle.exec_flow.specs.{Dispatch.{flow_row}, Raising.{privileged}}
 use Rattle.interrupts.specs.Worlds.{view_without_bytes, world_of_result, world_step}
-use Rattle.guest_space.specs.Code.{code_byte, code_from, one_byte}
-use Rattle.guest_space.specs.SegmentRows.{base_of_row, first_byte}
-use Rattle.guest_space.specs.Transfer.{bytes_at, linear_access}
-use Rattle.guest_space.proofs.Codes as codes
+use Rattle.guest_space.specs.{Code.{code_byte, code_from, one_byte}, SegmentRows.{base_of_row, first_byte}, Transfer.{bytes_at}}
+use Rattle.guest_space.specs.Transfer.{linear_access}
 use Rattle.host_memory.specs.View.{MachineView}
-use Rattle.insn_decode.specs.declared.decoding.Decoded.TheVariants.{Whole}
-use Rattle.insn_decode.specs.Decode.{decoded}
+use Rattle.insn_decode.specs.{declared.decoding.Decoded.TheVariants.{Whole}, Decode.{decoded}}
 use Rattle.insn_decode.proofs.Answering.{decoded_only}
-use Rattle.insn_forms.specs.declared.insn.Insn.{Insn}
-use Rattle.insn_forms.specs.declared.rows.OpMap.TheVariants.{One}
-use Rattle.insn_forms.specs.Addressing.{disp_size, modrm_size, sib_size}
-use Rattle.insn_forms.specs.Grammar.{Encoding, Pieces, addressing_of, head_of, insn_of_pieces}
-use Rattle.insn_forms.specs.OpcodeMap.{map_one_e0, opcode_row, row_one}
-use Rattle.insn_forms.specs.Operands.{insn_of, is_row}
-use Rattle.insn_forms.specs.Prefixes.{prefixes_of}
+use Rattle.insn_forms.specs.{declared.insn.Insn.{Insn}, declared.rows.OpMap.TheVariants.{One}, Addressing.{disp_size, modrm_size, sib_size}}
+use Rattle.insn_forms.specs.{Grammar.{Encoding, Pieces, addressing_of, head_of, insn_of_pieces}, OpcodeMap.{map_one_e0, opcode_row}}
+use Rattle.insn_forms.specs.{OpcodeMap.{row_one}, Operands.{insn_of, is_row}, Prefixes.{prefixes_of}}
 use Rattle.insn_plan.specs.Plan.{after_plan}
-use Rattle.host_run.specs.declared.traps.Trap.TheVariants.{NoTrap}
-use Rattle.host_run.specs.Traps.{address_in, code_address, code_linear, current_trap, trap_where}
+use Rattle.host_run.specs.{declared.traps.Trap.TheVariants.{NoTrap}, Traps.{address_in, code_address, code_linear, current_trap}}
+use Rattle.host_run.specs.Traps.{trap_where}
 use Rattle.host_run.proofs.NoTraps.{none_at}
+use Rattle.cpu_step.proofs.Joined.{past}
+use Rattle.guest_space.proofs.Codes as codes
 
 -- ---- HLT
 
@@ -118,10 +104,6 @@ unfolding current_trap code_linear
 fetched w trapped = fetched_by w w.mode (code_address w) (code_byte w 0) refl trapped
 
 -- the base of an access through CS is the address of its first byte
-base_where : (bar : Bool) (f : Fault) (r : Result ℕ Fault) (base : ℕ) → (if bar then Err f else r) ≡ Ok base → r ≡ Ok base
-base_where true f r base e = absurd cc
-base_where false f r base e = e
-
 real_base_was : (fits : Bool) (f : Fault) (first base : ℕ) → (if fits then Ok first else Err f) ≡ Ok base → first ≡ base
 real_base_was true f first base e = cc
 real_base_was false f first base e = absurd cc
@@ -131,8 +113,8 @@ row_base_was : (sel off base : ℕ) (row : Row) (rows : List Row) → row_of_sel
     first_byte Protected rows sel ≡ base
 row_base_was sel off base None rows is e = absurd cc
 row_base_was sel off base (Some row) rows is e =
-    let found = base_where (not (is_inside row.0 off 1)) _ (Ok row.0.base) base
-    (base_where (not row.0.present) _ _ base (base_where (not (is_code row.0.kind)) _ _ base e)) in
+    let found = past (not (is_inside row.0 off 1)) _ (Ok row.0.base) base
+    (past (not row.0.present) _ _ base (past (not (is_code row.0.kind)) _ _ base e)) in
     let same : row.0.base ≡ base = cc in
     ap base_of_row is ∙ same
 
@@ -141,7 +123,7 @@ base_was : (mode : Mode) (r : Regs) (rows : List Row) (off base : ℕ) → segme
 unfolding segment_base
 base_was Real r rows off base e = real_base_was (nat_le (off + 1) SEGMENT_SIZE) _ _ base e
 base_was Protected r rows off base e =
-    row_base_was r.cs off base (row_of_selector rows r.cs) rows refl (base_where (is_null r.cs) _ _ base e)
+    row_base_was r.cs off base (row_of_selector rows r.cs) rows refl (past (is_null r.cs) _ _ base e)
 
 address_was : (mode : Mode) (w : World) (base : ℕ) → first_byte mode w.descriptors w.regs.cs ≡ base → address_in mode w < DOS_SIZE →
     linear ((((base + w.regs.eip) % 2 ^ 32) + 0) % 2 ^ 32) ≡ address_in mode w

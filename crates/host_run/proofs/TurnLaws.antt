@@ -1,73 +1,42 @@
 -- What a turn keeps: one record, and one lemma for each kind of turn.
 use Rattle.std.proofs.Common.{arith, ◌≡◌, ◌≢◌, ◌≤◌, ◌+◌, ◌*◌, ◌∙◌, sym, ap, subst, ℕ, Bool, true, false, List, [], ◌∷◌, ◌++◌, nat_eq, refl}
 use Rattle.std.proofs.Common.{Option, None, Some, Ok, Err}
-use Rattle.std.specs.Prelude.{IfOk, is_ok, if◌then◌else◌}
-use Rattle.std.specs.declared.result.Result.{Result}
-use Rattle.client_world.specs.declared.calls.Call.{Call}
-use Rattle.client_world.specs.declared.calls.Call.TheVariants.{Int, Far, Iret, Reflect}
-use Rattle.client_world.specs.declared.calls.Record.{Record}
-use Rattle.client_world.specs.declared.calls.Record.TheVariants.{Sim, Back, Exc}
-use Rattle.client_world.specs.declared.calls.What.TheVariants as whats
-use Rattle.client_world.specs.declared.faults.Event.{Event}
-use Rattle.client_world.specs.declared.faults.Event.TheVariants as events
-use Rattle.client_world.specs.declared.faults.Fault.{Fault}
-use Rattle.client_world.specs.declared.outcome.Exit.{Exit}
-use Rattle.client_world.specs.declared.outcome.Exit.TheVariants as exits
-use Rattle.client_world.specs.declared.registers.Mode.{Mode}
-use Rattle.client_world.specs.declared.registers.Mode.TheVariants.{Real, Protected}
-use Rattle.client_world.specs.declared.registers.Regs.{Regs}
-use Rattle.client_world.specs.declared.services.Carry.{Carry}
-use Rattle.client_world.specs.declared.services.Carry.TheVariants.{Clear, Set}
-use Rattle.client_world.specs.declared.services.DosDone.{DosDone}
-use Rattle.client_world.specs.declared.services.DosDone.TheVariants as done
-use Rattle.client_world.specs.declared.trace.TraceLine.{TraceLine}
-use Rattle.client_world.specs.declared.trace.TraceLine.TheVariants as lines
-use Rattle.client_world.specs.Registers.{high_byte, low_byte, low_half, with_low_half}
-use Rattle.client_world.specs.Segments.{null_pointer}
-use Rattle.client_world.specs.Services.{Served, es_di, is_set}
-use Rattle.client_world.specs.Soundness.{IsSound}
-use Rattle.client_world.specs.World.{World, HostWorld}
+use Rattle.std.specs.{Prelude.{IfOk, is_ok, if◌then◌else◌}, declared.result.Result.{Result}}
+use Rattle.client_world.specs.{declared.calls.Call.{Call}, declared.calls.Call.TheVariants.{Int, Far, Iret, Reflect}}
+use Rattle.client_world.specs.{declared.calls.Record.{Record}, declared.calls.Record.TheVariants.{Sim, Back, Exc}}
+use Rattle.client_world.specs.{declared.faults.Event.{Event}, declared.faults.Fault.{Fault}, declared.outcome.Exit.{Exit}}
+use Rattle.client_world.specs.{declared.registers.Mode.{Mode}, declared.registers.Mode.TheVariants.{Real, Protected}}
+use Rattle.client_world.specs.{declared.registers.Regs.{Regs}, declared.services.Carry.{Carry}, declared.services.Carry.TheVariants.{Clear}}
+use Rattle.client_world.specs.{declared.services.Carry.TheVariants.{Set}, declared.services.DosDone.{DosDone}}
+use Rattle.client_world.specs.{declared.trace.TraceLine.{TraceLine}, Registers.{high_byte, low_byte, low_half, with_low_half}}
+use Rattle.client_world.specs.{Segments.{null_pointer}, Services.{Served, es_di, is_set}, Soundness.{IsSound}, World.{World, HostWorld}}
 use Rattle.client_world.proofs.SoundWrites.{IsSound-regs}
-use Rattle.callbacks.specs.Callbacks.{enter_callback, leave_callback}
-use Rattle.callbacks.specs.HandOver.{IsCallbackPopped}
-use Rattle.callbacks.proofs.KeptWorld.{enter_pushes, leave_pops}
-use Rattle.callbacks.proofs.SoundEntries.{sound_enter, sound_leave}
-use Rattle.dos_calls.specs.Calls.{CallResult, dos_call}
-use Rattle.dos_calls.specs.Multiplex.{multiplex_call}
-use Rattle.dos_calls.proofs.LeftCalls as left
+use Rattle.callbacks.specs.{Callbacks.{enter_callback, leave_callback}, HandOver.{IsCallbackPopped}}
+use Rattle.callbacks.proofs.{KeptWorld.{enter_pushes, leave_pops}, SoundEntries.{sound_enter, sound_leave}}
+use Rattle.dos_calls.specs.{Calls.{CallResult, dos_call}, Multiplex.{multiplex_call}}
 use Rattle.dos_calls.proofs.SoundCalls.{IsGood, call_keeps, multiplex_keeps}
 use Rattle.interrupts.specs.Worlds.{world_step, world_interrupt, world_delivery, world_after_iret}
 use Rattle.interrupts.proofs.KeptWorlds.{kept_world_delivery, kept_world_interrupt, kept_world_popped, kept_world_step}
-use Rattle.interrupts.proofs.RealFrameLaws.{popped_where_it_fits}
-use Rattle.interrupts.proofs.SoundAnswers.{sound_world_delivery, sound_world_interrupt, sound_world_popped, sound_world_step}
+use Rattle.interrupts.proofs.{RealFrameLaws.{popped_where_it_fits}, SoundAnswers.{sound_world_delivery, sound_world_interrupt}}
+use Rattle.interrupts.proofs.SoundAnswers.{sound_world_popped, sound_world_step}
 use Rattle.guest_ram.specs.Bytes.{AreBytes}
-use Rattle.mode_gates.specs.Entry.{entry, with_carry}
-use Rattle.mode_gates.proofs.FarStates.{kept_entry, kept_far}
-use Rattle.mode_gates.specs.FarFrames.{world_after_far_return}
-use Rattle.mode_gates.specs.Switches.{world_after_switch_to_protected, world_after_switch_to_real}
-use Rattle.mode_gates.proofs.SoundGates.{sound_entry, sound_world_far}
-use Rattle.mode_gates.proofs.SwitchLaws.{sound_to_protected, sound_to_real, to_protected_switches, to_real_switches}
+use Rattle.service_rows.specs.Rows.{with_carry}
+use Rattle.mode_gates.specs.{Entry.{entry}, FarFrames.{world_after_far_return}, Switches.{world_after_switch_to_protected}}
+use Rattle.mode_gates.specs.Switches.{world_after_switch_to_real}
+use Rattle.mode_gates.proofs.{FarStates.{kept_entry, kept_far}, SoundGates.{sound_entry, sound_world_far}, SwitchLaws.{sound_to_protected}}
+use Rattle.mode_gates.proofs.SwitchLaws.{sound_to_real, to_protected_switches, to_real_switches}
 use Rattle.mode_stack.specs.Stack.{top}
-use Rattle.fault_service.specs.Return.{exit_of_record}
-use Rattle.fault_service.specs.Worlds.{world_exception_return, world_protected_delivery}
-use Rattle.fault_service.proofs.WorldLaws as faults
-use Rattle.translation.specs.SimulatedCall.{begin_call, end_call, is_reflection, reflect}
-use Rattle.translation.proofs.Begun.{refused_world}
-use Rattle.translation.specs.HandOver.{IsPopped}
-use Rattle.translation.proofs.SoundCalls.{sound_begin, sound_reflect}
-use Rattle.translation.proofs.SoundReturns.{sound_end}
+use Rattle.fault_service.specs.{Return.{exit_of_record}, Worlds.{world_exception_return, world_protected_delivery}}
+use Rattle.translation.specs.{SimulatedCall.{begin_call, end_call, is_reflection, reflect}, HandOver.{IsPopped}}
+use Rattle.translation.proofs.{Begun.{refused_world}, SoundCalls.{sound_begin, sound_reflect}, SoundReturns.{sound_end}}
 use Rattle.translation.proofs.Stacked.{begin_pushes, end_pops, reflect_pushes}
 use Rattle.host_run.specs.declared.vectors.TheConstants.{DOS_INTERRUPT, DPMI_INTERRUPT, MULTIPLEX_INTERRUPT, TERMINATE_INTERRUPT}
-use Rattle.host_run.specs.declared.traps.Trap.{Trap}
-use Rattle.host_run.specs.declared.traps.Trap.TheVariants.{RealVector, Entry, ToProtected, RealState, CallReturn, Callback, ProtectedVector}
-use Rattle.host_run.specs.declared.traps.Trap.TheVariants.{ExceptionHandler, ToReal, ProtectedState, ExceptionReturn, CallbackReturn}
-use Rattle.host_run.specs.declared.traps.Trap.TheVariants.{NoTrap}
-use Rattle.host_run.specs.Keys.{HasKeys}
-use Rattle.host_run.specs.Nested.{PushesRecord, PopsRecord, Stacked, kept, popped as left_one, pushed}
-use Rattle.host_run.specs.RealCalls.{InterruptSource, ReflectedFrom, StartsCall, StartsRealCall, from_client}
-use Rattle.host_run.specs.Families.{service}
-use Rattle.host_run.specs.Traps.{current_trap}
-use Rattle.host_run.specs.Turn.{Outcome, goes_on, ends, with_machine, with_trace_line, after_frame_pop, dos_call_state, after_dos_call}
+use Rattle.host_run.specs.{declared.traps.Trap.{Trap}, declared.traps.Trap.TheVariants.{RealVector, Entry, ToProtected, RealState}}
+use Rattle.host_run.specs.declared.traps.Trap.TheVariants.{CallReturn, Callback, ProtectedVector, ExceptionHandler, ToReal, ProtectedState}
+use Rattle.host_run.specs.{declared.traps.Trap.TheVariants.{ExceptionReturn, CallbackReturn, NoTrap}, Keys.{HasKeys}, Nested.{PushesRecord}}
+use Rattle.host_run.specs.{Nested.{PopsRecord, Stacked, kept, popped as left_one, pushed}, RealCalls.{InterruptSource, ReflectedFrom}}
+use Rattle.host_run.specs.{RealCalls.{StartsCall, StartsRealCall, from_client}, Families.{service}, Traps.{current_trap}, Turn.{Outcome}}
+use Rattle.host_run.specs.Turn.{goes_on, ends, with_machine, with_trace_line, after_frame_pop, dos_call_state, after_dos_call}
 use Rattle.host_run.specs.Turn.{after_multiplex_call, ends_client, after_default_vector, entry_line, after_entry, after_entry_trap}
 use Rattle.host_run.specs.Turn.{after_switch_to_protected, is_exit_call, is_presence_call, asked_call, call_enter_line, call_leave_line}
 use Rattle.host_run.specs.Turn.{call_of_record, after_begin, after_call_return, after_reflected_interrupt, after_service, goes_on_with}
@@ -75,13 +44,15 @@ use Rattle.host_run.specs.Turn.{after_presence_call, after_int31, after_protecte
 use Rattle.host_run.specs.Turn.{enter_line, after_protected_delivery, exception_number, leave_line, after_exception_return, after_callback}
 use Rattle.host_run.specs.Turn.{callback_slot, after_callback_return, after_exception_in_mode, after_interrupt, after_step}
 use Rattle.host_run.specs.Turn.{after_next_instruction, after_trap, work, with_turn_counted, after_outcome, turn}
-use Rattle.host_run.proofs.AskedCalls.{plain_call}
-use Rattle.host_run.proofs.Frames.{still_popped}
-use Rattle.host_run.proofs.Growth.{work_grows}
-use Rattle.host_run.proofs.Services.{calls_service, sound_service}
-use Rattle.host_run.proofs.KindModes.{Suits, trap_suits}
-use Rattle.host_run.proofs.PoppedInterrupts.{popped_keeps_interrupts}
-use Rattle.host_run.proofs.RealCalls.{innermost_of}
+use Rattle.host_run.proofs.{AskedCalls.{plain_call}, Frames.{still_popped}, Growth.{work_grows}, Services.{calls_service, sound_service}}
+use Rattle.host_run.proofs.{KindModes.{Suits, trap_suits}, PoppedInterrupts.{popped_keeps_interrupts}, RealCalls.{innermost_of}}
+use Rattle.client_world.specs.declared.calls.What.TheVariants as whats
+use Rattle.client_world.specs.declared.faults.Event.TheVariants as events
+use Rattle.client_world.specs.declared.outcome.Exit.TheVariants as exits
+use Rattle.client_world.specs.declared.services.DosDone.TheVariants as done
+use Rattle.client_world.specs.declared.trace.TraceLine.TheVariants as lines
+use Rattle.dos_calls.proofs.LeftCalls as left
+use Rattle.fault_service.proofs.WorldLaws as faults
 
 -- a host whose machine is sound and whose keys are bytes
 pub record IsReached (h : HostWorld) : Type 0 where

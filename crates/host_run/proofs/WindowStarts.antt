@@ -1,7 +1,6 @@
 -- Windows of code: which are the machine's, and their starts.
 use Rattle.std.proofs.Common.{◌≡◌, ℕ, ◌+◌, ◌<◌, arith}
-use Rattle.guest_space.specs.declared.windows.CodeWindow.{CodeWindow}
-use Rattle.guest_space.specs.Windows.{IsWindow}
+use Rattle.guest_space.specs.{declared.windows.CodeWindow.{CodeWindow}, Windows.{IsWindow}}
 use Rattle.host_memory.specs.View.{MachineView}
 use Rattle.host_run.specs.Windows.{HasWindow, IsOutside, IsStart, IsTrapFree}
 

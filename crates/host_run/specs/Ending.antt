@@ -1,9 +1,8 @@
 -- How a run ends, in one word: which exit it is in its low four bits, a code or an exception's number in the eight bits after them, and an
 -- exception's error code in the bits from 12 on. Source: own.
 use Rattle.std.specs.Prelude.{ℕ, ◌/◌, ◌%◌, nat_eq, if◌then◌else◌}
-use Rattle.client_world.specs.declared.outcome.Exit.{Exit}
-use Rattle.client_world.specs.declared.outcome.Exit.TheVariants.{Exited, Fault, Bound, NoKeys, ConsoleFull, Deep, Stray, LostStructure}
-use Rattle.client_world.specs.declared.outcome.Exit.TheVariants.{BadFrame, BadSwitch}
+use Rattle.client_world.specs.{declared.outcome.Exit.{Exit}, declared.outcome.Exit.TheVariants.{Exited, Fault, Bound, NoKeys, ConsoleFull}}
+use Rattle.client_world.specs.declared.outcome.Exit.TheVariants.{Deep, Stray, LostStructure, BadFrame, BadSwitch}
 
 abbrev number_in : ℕ → ℕ
 number_in word = word / 0x10 % 0x100

@@ -1,18 +1,12 @@
 -- What a delivery of an exception of protected mode and the return from it hand over. Source: DPMI 0.9, "Exceptions"; the frame is own.
-use Rattle.std.specs.Prelude.{◌≡◌, ℕ, Ok}
-use Rattle.std.specs.declared.result.Result.{Result}
-use Rattle.client_world.specs.declared.faults.Event.{Event}
-use Rattle.client_world.specs.declared.faults.Fault.{Fault}
-use Rattle.client_world.specs.declared.registers.TheConstants.{INTERRUPT_BIT}
-use Rattle.client_world.specs.declared.segments.SegReg.TheVariants.{Ss}
-use Rattle.client_world.specs.Registers.{has_bit, low_half}
-use Rattle.client_world.specs.World.{World}
+use Rattle.std.specs.{Prelude.{◌≡◌, ℕ, Ok}, declared.result.Result.{Result}}
+use Rattle.client_world.specs.{declared.faults.Event.{Event}, declared.faults.Fault.{Fault}}
+use Rattle.client_world.specs.{declared.registers.TheConstants.{INTERRUPT_BIT}, declared.segments.SegReg.TheVariants.{Ss}}
+use Rattle.client_world.specs.{Registers.{has_bit, low_half}, World.{World}}
 use Rattle.exec_flow.specs.Interrupts.{frame_bits}
 use Rattle.guest_space.specs.Transfer.{read_result}
-use Rattle.insn_plan.specs.Act.{value_of}
-use Rattle.insn_plan.specs.Stack.{stack_item}
-use Rattle.fault_service.specs.Delivery.{exception_frame, exception_frame_size}
-use Rattle.fault_service.specs.Return.{frame_regs}
+use Rattle.insn_plan.specs.{Act.{value_of}, Stack.{stack_item}}
+use Rattle.fault_service.specs.{Delivery.{exception_frame, exception_frame_size}, Return.{frame_regs}}
 
 -- from w an exception was delivered, which led to v: at SS:ESP of the handler its frame is read
 abbrev pub HasDelivered : World → Fault → World → Type 0

@@ -1,19 +1,16 @@
 -- The functions of INT 31h: which numbers have a service, and in which family. Source: DPMI 0.9; that all others are refused with a number
 -- is own.
-use Rattle.std.specs.Prelude.{ℕ, Bool, ◌&&◌, ◌||◌, nat_eq, nat_le, if◌then◌else◌, None, Some}
-use Rattle.std.specs.declared.option.Option.{Option}
-use Rattle.client_world.specs.Services.{Served}
-use Rattle.client_world.specs.World.{World}
+use Rattle.std.specs.{Prelude.{ℕ, Bool, ◌&&◌, ◌||◌, nat_eq, nat_le, if◌then◌else◌, None, Some}, declared.option.Option.{Option}}
+use Rattle.client_world.specs.{Services.{Served}, World.{World}}
 use Rattle.block_services.specs.Rows.{block_service}
 use Rattle.callbacks.specs.Services.{callback_service}
 use Rattle.desc_services.specs.Rows.{descriptor_service}
 use Rattle.dos_blocks.specs.Services.{dos_service}
 use Rattle.mode_gates.specs.Switches.{gate_service}
-use Rattle.service_rows.specs.declared.refusal.Refusal.TheVariants.{Unsupported}
-use Rattle.service_rows.specs.Reasons.{refusal_answer}
+use Rattle.service_rows.specs.{declared.refusal.Refusal.TheVariants.{Unsupported}, Reasons.{refusal_answer}}
 use Rattle.vector_services.specs.Rows.{vector_service}
-use Rattle.host_run.specs.declared.families.Family.{Family}
-use Rattle.host_run.specs.declared.families.Family.TheVariants.{Descriptors, DosMemory, Vectors, Callbacks, Gates, Blocks}
+use Rattle.host_run.specs.{declared.families.Family.{Family}, declared.families.Family.TheVariants.{Descriptors, DosMemory, Vectors}}
+use Rattle.host_run.specs.declared.families.Family.TheVariants.{Callbacks, Gates, Blocks}
 
 -- the number is one of those from first to last
 abbrev pub is_between : ℕ → ℕ → ℕ → Bool

@@ -1,26 +1,16 @@
 -- The bytes of the memory that a turn may change: its footprint. Source: own.
-use Rattle.std.specs.Prelude.{ℕ, ◌-◌, List, [], None, Some, Ok, Err}
-use Rattle.std.specs.declared.result.Result.{Result}
-use Rattle.client_world.specs.declared.faults.Event.{Event}
-use Rattle.client_world.specs.declared.faults.Event.TheVariants as events
-use Rattle.client_world.specs.declared.faults.Fault.{Fault}
-use Rattle.client_world.specs.declared.outcome.Exit.{Exit}
-use Rattle.client_world.specs.declared.place.Place.{Place}
-use Rattle.client_world.specs.declared.registers.Mode.{Mode}
-use Rattle.client_world.specs.declared.registers.Mode.TheVariants.{Real, Protected}
-use Rattle.client_world.specs.World.{World, HostWorld, depth}
+use Rattle.std.specs.{Prelude.{ℕ, ◌-◌, List, [], None, Some, Ok, Err}, declared.result.Result.{Result}}
+use Rattle.client_world.specs.{declared.faults.Event.{Event}, declared.faults.Fault.{Fault}, declared.outcome.Exit.{Exit}}
+use Rattle.client_world.specs.{declared.place.Place.{Place}, declared.registers.Mode.{Mode}, declared.registers.Mode.TheVariants.{Real}}
+use Rattle.client_world.specs.{declared.registers.Mode.TheVariants.{Protected}, World.{World, HostWorld, depth}}
 use Rattle.cpu_step.specs.Step.{client_step}
-use Rattle.interrupts.specs.Delivery.{software_interrupt}
-use Rattle.interrupts.specs.Worlds.{world_interrupt, world_step}
+use Rattle.interrupts.specs.{Delivery.{software_interrupt}, Worlds.{world_interrupt, world_step}}
 use Rattle.guest_space.specs.Records.{OnlyAtAndRow}
 use Rattle.host_memory.specs.View.{MachineView, OnlyAt}
-use Rattle.fault_service.specs.ByMode.{delivery}
-use Rattle.fault_service.specs.Memory.{frame_places}
-use Rattle.fault_service.specs.StepMemory.{interrupt_places, written_places}
-use Rattle.host_run.specs.declared.traps.Trap.{Trap}
-use Rattle.host_run.specs.declared.traps.Trap.TheVariants.{RealVector, Entry, CallReturn, Callback, ProtectedVector, ExceptionReturn}
-use Rattle.host_run.specs.declared.traps.Trap.TheVariants.{CallbackReturn, NoTrap}
-use Rattle.host_run.specs.Traps.{current_trap}
+use Rattle.fault_service.specs.{ByMode.{delivery}, Memory.{frame_places}, StepMemory.{interrupt_places, written_places}}
+use Rattle.host_run.specs.{declared.traps.Trap.{Trap}, declared.traps.Trap.TheVariants.{RealVector, Entry, CallReturn, Callback}}
+use Rattle.host_run.specs.{declared.traps.Trap.TheVariants.{ProtectedVector, ExceptionReturn, CallbackReturn, NoTrap}, Traps.{current_trap}}
+use Rattle.client_world.specs.declared.faults.Event.TheVariants as events
 
 -- the bytes of some places, and the host's frames keep theirs; or besides the bytes of the row of a record; or nothing is said
 pub data Footprint : Type 0 where

@@ -5,25 +5,17 @@
 -- says.
 -- Source: DPMI 0.9, INT 31h functions 0300h to 0303h, "Interrupts" and "Exceptions".
 use Rattle.std.specs.Prelude.{◌≡◌, ℕ, [], ◌∷◌, Ok}
-use Rattle.client_world.specs.declared.calls.Call.{Call}
-use Rattle.client_world.specs.declared.calls.Call.TheVariants.{Int, Far, Iret, Reflect}
-use Rattle.client_world.specs.declared.calls.Record.{Record}
-use Rattle.client_world.specs.declared.calls.Record.TheVariants.{Sim, Back, Exc}
-use Rattle.client_world.specs.declared.calls.What.TheVariants as whats
-use Rattle.client_world.specs.declared.segments.FarPtr.{FarPtr}
-use Rattle.client_world.specs.declared.services.Carry.TheVariants.{Clear}
-use Rattle.client_world.specs.declared.trace.TraceLine.TheVariants.{Int31}
-use Rattle.client_world.specs.Registers.{low_half}
-use Rattle.client_world.specs.Segments.{null_pointer}
-use Rattle.client_world.specs.Services.{es_di}
-use Rattle.client_world.specs.World.{World, HostWorld}
+use Rattle.client_world.specs.{declared.calls.Call.{Call}, declared.calls.Call.TheVariants.{Int, Far, Iret, Reflect}}
+use Rattle.client_world.specs.{declared.calls.Record.{Record}, declared.calls.Record.TheVariants.{Sim, Back, Exc}}
+use Rattle.client_world.specs.{declared.segments.FarPtr.{FarPtr}, declared.services.Carry.TheVariants.{Clear}}
+use Rattle.client_world.specs.{declared.trace.TraceLine.TheVariants.{Int31}, Registers.{low_half}, Segments.{null_pointer}}
+use Rattle.client_world.specs.{Services.{es_di}, World.{World, HostWorld}}
 use Rattle.callbacks.specs.HandOver.{HasEntered, HasLeft}
 use Rattle.interrupts.specs.Worlds.{world_after_iret}
-use Rattle.host_run.specs.Exceptions.{HasDelivered, HasResumed}
-use Rattle.host_run.specs.RealCalls.{HasMoreLines, InterruptSource, ReflectedFrom}
+use Rattle.host_run.specs.{Exceptions.{HasDelivered, HasResumed}, RealCalls.{HasMoreLines, InterruptSource, ReflectedFrom}}
 use Rattle.host_run.specs.Turn.{call_enter_line, call_leave_line, enter_line, leave_line}
-use Rattle.translation.specs.HandOver.{HasBegun, HasEnded, HasReflected}
-use Rattle.translation.specs.Structure.{structure_bytes}
+use Rattle.translation.specs.{HandOver.{HasBegun, HasEnded, HasReflected}, Structure.{structure_bytes}}
+use Rattle.client_world.specs.declared.calls.What.TheVariants as whats
 
 -- the turn from w to v starts a call that the client asks for, and the turn from x to y ends it. `popped` is the machine with the frame of
 -- the client's INT 31h popped: the procedure starts with the registers of its structure and with its words, and at the end the client has

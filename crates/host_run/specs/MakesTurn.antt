@@ -1,11 +1,9 @@
 -- What a turn promises, whoever makes it: the host, with watchpoints or a timer, or something else in place of the host's own turn. Source:
 -- own.
-use Rattle.std.specs.Prelude.{◌≡◌, ◌≤◌, ◌+◌, IfErr, IsSome, MatchResult, OnOk, None, Some, Ok, Err}
-use Rattle.std.specs.declared.option.Option.{Option}
+use Rattle.std.specs.{Prelude.{◌≡◌, ◌≤◌, ◌+◌, IfErr, IsSome, MatchResult, OnOk, None, Some, Ok, Err}, declared.option.Option.{Option}}
 use Rattle.std.specs.declared.result.Result.{Result}
 use Rattle.client_world.specs.declared.outcome.Exit.{Exit}
-use Rattle.host_run.specs.Footprint.{ChangesOnly, Footprint}
-use Rattle.host_run.specs.View.{HostView}
+use Rattle.host_run.specs.{Footprint.{ChangesOnly, Footprint}, View.{HostView}}
 
 -- what a turn answers: the exit, where there is one after it
 abbrev pub turn_answer : Option Exit → Result (Unit {0}) Exit

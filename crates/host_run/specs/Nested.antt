@@ -1,14 +1,11 @@
 -- The records of calls from turn to turn: a turn leaves them, adds an innermost one, or takes the innermost one away. Source: own.
 use Rattle.std.specs.Prelude.{◌≡◌, ◌≢◌, ◌<◌, ◌≤◌, ◌+◌, ℕ, [], ◌∷◌, ◌++◌, take, Ok}
-use Rattle.client_world.specs.declared.calls.Record.{Record}
-use Rattle.client_world.specs.declared.calls.Record.TheVariants.{Sim, Back, Exc}
-use Rattle.client_world.specs.declared.calls.What.TheVariants as whats
-use Rattle.client_world.specs.declared.registers.Mode.TheVariants.{Protected}
-use Rattle.client_world.specs.World.{HostWorld, depth}
+use Rattle.client_world.specs.{declared.calls.Record.{Record}, declared.calls.Record.TheVariants.{Sim, Back, Exc}}
+use Rattle.client_world.specs.{declared.registers.Mode.TheVariants.{Protected}, World.{HostWorld, depth}}
 use Rattle.callbacks.specs.Callbacks.{enter_callback, leave_callback}
 use Rattle.fault_service.specs.Worlds.{world_exception_return, world_protected_delivery}
-use Rattle.host_run.specs.RealCalls.{HasMoreLines, InterruptSource, ReturnsFromCall, StartsRealCall}
-use Rattle.host_run.specs.Turn.{enter_line, leave_line}
+use Rattle.host_run.specs.{RealCalls.{HasMoreLines, InterruptSource, ReturnsFromCall, StartsRealCall}, Turn.{enter_line, leave_line}}
+use Rattle.client_world.specs.declared.calls.What.TheVariants as whats
 
 -- a turn that adds a record: it starts a call of real mode or a callback, or delivers an exception of protected mode
 abbrev pub PushesRecord : InterruptSource → HostWorld → Record → HostWorld → Type 0

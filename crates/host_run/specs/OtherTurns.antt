@@ -1,28 +1,18 @@
 -- Turns that are made in place of the host's own: INT 31h that is served from outside, an exception and an interrupt that come from
 -- outside. Each is counted as a turn. Source: own.
 use Rattle.std.specs.Prelude.{◌≡◌, ℕ, ◌+◌, Bool, false, ◌&&◌, is_ok, nat_eq, if◌then◌else◌, None, Some, Ok, Err}
-use Rattle.std.specs.declared.option.Option.{Option}
-use Rattle.std.specs.declared.result.Result.{Result}
-use Rattle.client_world.specs.declared.faults.Fault.{Fault}
-use Rattle.client_world.specs.declared.outcome.Exit.{Exit}
-use Rattle.client_world.specs.declared.registers.Mode.{Mode}
-use Rattle.client_world.specs.declared.registers.Mode.TheVariants.{Real, Protected}
-use Rattle.client_world.specs.declared.registers.Regs.{Regs}
-use Rattle.client_world.specs.declared.services.Carry.{Carry}
-use Rattle.client_world.specs.declared.traps.TheConstants.{PROTECTED_VECTOR_TRAPS}
-use Rattle.client_world.specs.Registers.{low_half}
-use Rattle.client_world.specs.Services.{Served}
-use Rattle.client_world.specs.World.{World, HostWorld}
+use Rattle.std.specs.{declared.option.Option.{Option}, declared.result.Result.{Result}}
+use Rattle.client_world.specs.{declared.faults.Fault.{Fault}, declared.outcome.Exit.{Exit}, declared.registers.Mode.{Mode}}
+use Rattle.client_world.specs.{declared.registers.Mode.TheVariants.{Real, Protected}, declared.registers.Regs.{Regs}}
+use Rattle.client_world.specs.{declared.services.Carry.{Carry}, declared.traps.TheConstants.{PROTECTED_VECTOR_TRAPS}, Registers.{low_half}}
+use Rattle.client_world.specs.{Services.{Served}, World.{World, HostWorld}}
 use Rattle.interrupts.specs.Worlds.{world_interrupt, world_after_iret}
 use Rattle.guest_space.specs.VectorLists.{vector_at}
 use Rattle.host_memory.specs.Blank.{host_pointer}
-use Rattle.host_run.specs.Footprint.{Footprint, interrupt_footprint, unsaid}
-use Rattle.host_run.specs.declared.traps.Trap.{Trap}
-use Rattle.host_run.specs.declared.traps.Trap.TheVariants.{ProtectedVector}
-use Rattle.host_run.specs.declared.vectors.TheConstants.{DPMI_INTERRUPT}
-use Rattle.host_run.specs.Traps.{current_trap}
-use Rattle.host_run.specs.Turn.{Outcome, after_interrupt, after_reflected_interrupt, after_service, after_exception, ends, after_outcome}
-use Rattle.host_run.specs.Turn.{with_turn_counted}
+use Rattle.host_run.specs.{Footprint.{Footprint, interrupt_footprint, unsaid}, declared.traps.Trap.{Trap}}
+use Rattle.host_run.specs.{declared.traps.Trap.TheVariants.{ProtectedVector}, declared.vectors.TheConstants.{DPMI_INTERRUPT}}
+use Rattle.host_run.specs.{Traps.{current_trap}, Turn.{Outcome, after_interrupt, after_reflected_interrupt, after_service, after_exception}}
+use Rattle.host_run.specs.Turn.{ends, after_outcome, with_turn_counted}
 use Rattle.translation.specs.SimulatedCall.{reflect}
 
 -- the second host is one turn later, with the same keystrokes and the same console

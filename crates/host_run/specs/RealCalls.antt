@@ -1,18 +1,11 @@
 -- How a turn starts a call of real mode, and how a call returns: the world after it, the record that it keeps meanwhile, and its lines of
 -- the trace. Source: own.
 use Rattle.std.specs.Prelude.{◌≡◌, ◌⊎◌, List, [], ◌∷◌, ℕ, Some, Ok}
-use Rattle.client_world.specs.declared.calls.Call.{Call}
-use Rattle.client_world.specs.declared.calls.Call.TheVariants.{Int, Far, Iret, Reflect}
-use Rattle.client_world.specs.declared.calls.Record.{Record}
-use Rattle.client_world.specs.declared.calls.Record.TheVariants.{Sim}
-use Rattle.client_world.specs.declared.registers.Mode.TheVariants.{Protected}
-use Rattle.client_world.specs.declared.services.Carry.TheVariants.{Clear}
-use Rattle.client_world.specs.declared.trace.TraceLine.{TraceLine}
-use Rattle.client_world.specs.declared.trace.TraceLine.TheVariants.{Int31}
-use Rattle.client_world.specs.Registers.{low_half}
-use Rattle.client_world.specs.Segments.{null_pointer}
-use Rattle.client_world.specs.Services.{es_di}
-use Rattle.client_world.specs.World.{World, HostWorld}
+use Rattle.client_world.specs.{declared.calls.Call.{Call}, declared.calls.Call.TheVariants.{Int, Far, Iret, Reflect}}
+use Rattle.client_world.specs.{declared.calls.Record.{Record}, declared.calls.Record.TheVariants.{Sim}}
+use Rattle.client_world.specs.{declared.registers.Mode.TheVariants.{Protected}, declared.services.Carry.TheVariants.{Clear}}
+use Rattle.client_world.specs.{declared.trace.TraceLine.{TraceLine}, declared.trace.TraceLine.TheVariants.{Int31}, Registers.{low_half}}
+use Rattle.client_world.specs.{Segments.{null_pointer}, Services.{es_di}, World.{World, HostWorld}}
 use Rattle.interrupts.specs.Worlds.{world_after_iret}
 use Rattle.host_run.specs.Turn.{asked_call, call_enter_line, call_leave_line, with_trace_line}
 use Rattle.translation.specs.SimulatedCall.{begin_call, end_call, reflect}

@@ -1,7 +1,6 @@
 -- A run: turns up to an exit, or as many as its bound. Source: own.
 use Rattle.std.specs.Prelude.{ℕ, None, Some, zero, suc}
-use Rattle.client_world.specs.declared.outcome.Exit.TheVariants.{Bound}
-use Rattle.client_world.specs.World.{HostWorld}
+use Rattle.client_world.specs.{declared.outcome.Exit.TheVariants.{Bound}, World.{HostWorld}}
 use Rattle.host_run.specs.Turn.{turn}
 
 -- the world after that many turns

@@ -1,11 +1,8 @@
 -- The places that the client instruction of a turn touches. Source: own.
 use Rattle.std.specs.Prelude.{List, [], None, Some}
-use Rattle.client_world.specs.declared.place.Place.{Place}
-use Rattle.client_world.specs.World.{World, HostWorld}
+use Rattle.client_world.specs.{declared.place.Place.{Place}, World.{World, HostWorld}}
 use Rattle.cpu_step.specs.Touched.{touched_by_step as step_touches}
-use Rattle.host_run.specs.declared.traps.Trap.{Trap}
-use Rattle.host_run.specs.declared.traps.Trap.TheVariants.{NoTrap}
-use Rattle.host_run.specs.Traps.{current_trap}
+use Rattle.host_run.specs.{declared.traps.Trap.{Trap}, declared.traps.Trap.TheVariants.{NoTrap}, Traps.{current_trap}}
 
 -- none at a trap, in either mode: the host serves it
 abbrev pub unless_trapped : World → Trap → List Place

@@ -3,20 +3,15 @@
 use Rattle.std.specs.Prelude.{ℕ, ◌+◌, ◌-◌, Bool, true, false, ◌&&◌, nat_le, nat_lt, nat_eq, if◌then◌else◌, None, Some, Ok, Err}
 use Rattle.std.specs.declared.option.Option.{Option}
 use Rattle.client_world.specs.declared.limits.TheConstants.{CALLBACKS, INTERRUPT_VECTORS, EXCEPTION_VECTORS}
-use Rattle.client_world.specs.declared.registers.Mode.{Mode}
-use Rattle.client_world.specs.declared.registers.Mode.TheVariants.{Real, Protected}
+use Rattle.client_world.specs.{declared.registers.Mode.{Mode}, declared.registers.Mode.TheVariants.{Real, Protected}}
 use Rattle.client_world.specs.declared.traps.TheConstants.{REAL_VECTOR_TRAPS, ENTRY_TRAP, SWITCH_TO_PROTECTED_TRAP, REAL_STATE_TRAP}
 use Rattle.client_world.specs.declared.traps.TheConstants.{CALL_RETURN_TRAP, CALLBACK_TRAPS, PROTECTED_VECTOR_TRAPS, EXCEPTION_TRAPS}
 use Rattle.client_world.specs.declared.traps.TheConstants.{SWITCH_TO_REAL_TRAP, PROTECTED_STATE_TRAP, EXCEPTION_RETURN_TRAP}
-use Rattle.client_world.specs.declared.traps.TheConstants.{CALLBACK_RETURN_TRAP}
-use Rattle.client_world.specs.Access.{linear, linear_address}
-use Rattle.client_world.specs.World.{World}
-use Rattle.guest_space.specs.Code.{code_byte}
-use Rattle.guest_space.specs.SegmentRows.{first_byte}
-use Rattle.host_run.specs.declared.traps.Trap.{Trap}
-use Rattle.host_run.specs.declared.traps.Trap.TheVariants.{RealVector, Entry, ToProtected, RealState, CallReturn, Callback, ProtectedVector}
-use Rattle.host_run.specs.declared.traps.Trap.TheVariants.{ExceptionHandler, ToReal, ProtectedState, ExceptionReturn, CallbackReturn}
-use Rattle.host_run.specs.declared.traps.Trap.TheVariants.{NoTrap}
+use Rattle.client_world.specs.{declared.traps.TheConstants.{CALLBACK_RETURN_TRAP}, Access.{linear, linear_address}, World.{World}}
+use Rattle.guest_space.specs.{Code.{code_byte}, SegmentRows.{first_byte}}
+use Rattle.host_run.specs.{declared.traps.Trap.{Trap}, declared.traps.Trap.TheVariants.{RealVector, Entry, ToProtected, RealState}}
+use Rattle.host_run.specs.declared.traps.Trap.TheVariants.{CallReturn, Callback, ProtectedVector, ExceptionHandler, ToReal, ProtectedState}
+use Rattle.host_run.specs.declared.traps.Trap.TheVariants.{ExceptionReturn, CallbackReturn, NoTrap}
 
 -- an address is one of the n from another on
 abbrev pub is_among : ℕ → ℕ → ℕ → Bool

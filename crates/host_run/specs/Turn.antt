@@ -1,47 +1,34 @@
 -- One turn: it serves a trap byte, or runs one client instruction with its software interrupt, or delivers its exception. Source: own.
 use Rattle.std.specs.Prelude.{ℕ, ◌+◌, Bool, [], ◌∷◌, ◌++◌, length, ◌&&◌, ◌||◌, nat_eq, nat_lt, if◌then◌else◌, None, Some, Ok, Err}
-use Rattle.std.specs.declared.option.Option.{Option}
-use Rattle.std.specs.declared.result.Result.{Result}
-use Rattle.client_world.specs.declared.calls.Call.{Call}
-use Rattle.client_world.specs.declared.calls.Call.TheVariants.{Int, Far, Iret, Reflect}
-use Rattle.client_world.specs.declared.calls.Record.{Record}
-use Rattle.client_world.specs.declared.calls.Record.TheVariants.{Sim, Back, Exc}
-use Rattle.client_world.specs.declared.calls.What.{What}
-use Rattle.client_world.specs.declared.calls.What.TheVariants as whats
-use Rattle.client_world.specs.declared.faults.Event.{Event}
-use Rattle.client_world.specs.declared.faults.Event.TheVariants as events
-use Rattle.client_world.specs.declared.faults.Fault.{Fault}
+use Rattle.std.specs.{declared.option.Option.{Option}, declared.result.Result.{Result}}
+use Rattle.client_world.specs.{declared.calls.Call.{Call}, declared.calls.Call.TheVariants.{Int, Far, Iret, Reflect}}
+use Rattle.client_world.specs.{declared.calls.Record.{Record}, declared.calls.Record.TheVariants.{Sim, Back, Exc}}
+use Rattle.client_world.specs.{declared.calls.What.{What}, declared.faults.Event.{Event}, declared.faults.Fault.{Fault}}
 use Rattle.client_world.specs.declared.faults.TheConstants.{DIVIDE_ERROR, INVALID_OPCODE, COPROCESSOR_NOT_AVAILABLE}
-use Rattle.client_world.specs.declared.outcome.Exit.{Exit}
-use Rattle.client_world.specs.declared.outcome.Exit.TheVariants as exits
-use Rattle.client_world.specs.declared.registers.Mode.{Mode}
-use Rattle.client_world.specs.declared.registers.Mode.TheVariants.{Real, Protected}
-use Rattle.client_world.specs.declared.services.Carry.{Carry}
-use Rattle.client_world.specs.declared.services.Carry.TheVariants.{Clear, Set}
-use Rattle.client_world.specs.declared.services.DosDone.TheVariants as done
-use Rattle.client_world.specs.declared.trace.TraceLine.{TraceLine}
-use Rattle.client_world.specs.declared.trace.TraceLine.TheVariants as lines
-use Rattle.client_world.specs.Registers.{high_byte, low_byte, low_half, with_low_half}
-use Rattle.client_world.specs.Services.{Served, is_set}
-use Rattle.client_world.specs.World.{World, HostWorld, depth}
+use Rattle.client_world.specs.{declared.outcome.Exit.{Exit}, declared.registers.Mode.{Mode}, declared.registers.Mode.TheVariants.{Real}}
+use Rattle.client_world.specs.{declared.registers.Mode.TheVariants.{Protected}, declared.services.Carry.{Carry}}
+use Rattle.client_world.specs.{declared.services.Carry.TheVariants.{Clear, Set}, declared.trace.TraceLine.{TraceLine}}
+use Rattle.client_world.specs.{Registers.{high_byte, low_byte, low_half, with_low_half}, Services.{Served, is_set}, World.{World}}
+use Rattle.client_world.specs.World.{HostWorld, depth}
 use Rattle.callbacks.specs.Callbacks.{enter_callback, leave_callback}
-use Rattle.dos_calls.specs.Calls.{CallState, CallResult, dos_call}
-use Rattle.dos_calls.specs.Multiplex.{multiplex_call}
+use Rattle.dos_calls.specs.{Calls.{CallState, CallResult, dos_call}, Multiplex.{multiplex_call}}
 use Rattle.interrupts.specs.Worlds.{world_step, world_interrupt, world_delivery, world_after_iret}
-use Rattle.mode_gates.specs.Entry.{asked_width, entry, with_carry}
-use Rattle.mode_gates.specs.FarFrames.{world_after_far_return}
-use Rattle.mode_gates.specs.Switches.{world_after_switch_to_protected, world_after_switch_to_real}
+use Rattle.mode_gates.specs.{Entry.{asked_width, entry}, FarFrames.{world_after_far_return}, Switches.{world_after_switch_to_protected}}
+use Rattle.mode_gates.specs.Switches.{world_after_switch_to_real}
 use Rattle.mode_stack.specs.Stack.{top}
-use Rattle.fault_service.specs.Return.{exit_of_record}
-use Rattle.fault_service.specs.Worlds.{world_exception_return, world_protected_delivery}
+use Rattle.service_rows.specs.Rows.{with_carry}
+use Rattle.fault_service.specs.{Return.{exit_of_record}, Worlds.{world_exception_return, world_protected_delivery}}
 use Rattle.translation.specs.SimulatedCall.{begin_call, end_call, reflect}
-use Rattle.host_run.specs.declared.traps.Trap.{Trap}
-use Rattle.host_run.specs.declared.traps.Trap.TheVariants.{RealVector, Entry, ToProtected, RealState, CallReturn, Callback, ProtectedVector}
-use Rattle.host_run.specs.declared.traps.Trap.TheVariants.{ExceptionHandler, ToReal, ProtectedState, ExceptionReturn, CallbackReturn}
-use Rattle.host_run.specs.declared.traps.Trap.TheVariants.{NoTrap}
+use Rattle.host_run.specs.{declared.traps.Trap.{Trap}, declared.traps.Trap.TheVariants.{RealVector, Entry, ToProtected, RealState}}
+use Rattle.host_run.specs.declared.traps.Trap.TheVariants.{CallReturn, Callback, ProtectedVector, ExceptionHandler, ToReal, ProtectedState}
+use Rattle.host_run.specs.declared.traps.Trap.TheVariants.{ExceptionReturn, CallbackReturn, NoTrap}
 use Rattle.host_run.specs.declared.vectors.TheConstants.{DOS_INTERRUPT, DPMI_INTERRUPT, MULTIPLEX_INTERRUPT, TERMINATE_INTERRUPT}
-use Rattle.host_run.specs.Families.{service}
-use Rattle.host_run.specs.Traps.{current_trap}
+use Rattle.host_run.specs.{Families.{service}, Traps.{current_trap}}
+use Rattle.client_world.specs.declared.calls.What.TheVariants as whats
+use Rattle.client_world.specs.declared.faults.Event.TheVariants as events
+use Rattle.client_world.specs.declared.outcome.Exit.TheVariants as exits
+use Rattle.client_world.specs.declared.services.DosDone.TheVariants as done
+use Rattle.client_world.specs.declared.trace.TraceLine.TheVariants as lines
 
 -- what a turn does: the host after it, and the exit that ends the run, if there is one
 pub record Outcome : Type 0 where

@@ -1,9 +1,7 @@
 -- A host as contracts see it: its world, and the bytes of its machine's memory, which hold the machine's part of it; and how a turn's work
 -- ends. Source: own.
-use Rattle.std.specs.Prelude.{◌≡◌, ◌≤◌, ◌+◌, ◌*◌, ℕ, List, MatchResult}
-use Rattle.std.specs.declared.result.Result.{Result}
-use Rattle.client_world.specs.declared.outcome.Exit.{Exit}
-use Rattle.client_world.specs.World.{HostWorld}
+use Rattle.std.specs.{Prelude.{◌≡◌, ◌≤◌, ◌+◌, ◌*◌, ℕ, List, MatchResult}, declared.result.Result.{Result}}
+use Rattle.client_world.specs.{declared.outcome.Exit.{Exit}, World.{HostWorld}}
 use Rattle.host_memory.specs.View.{MachineView}
 use Rattle.host_run.specs.Turn.{Outcome, goes_on, ends}
 

@@ -1,10 +1,7 @@
 -- A window of the client's code, in which turns find one instruction after another. Source: own.
-use Rattle.std.specs.Prelude.{◌≡◌, ◌⊎◌, ℕ, ◌+◌, ◌<◌, ◌≤◌, None, Some}
-use Rattle.std.specs.declared.option.Option.{Option}
-use Rattle.client_world.specs.declared.memory_map.TheConstants.{DOS_SIZE, ROM_START}
-use Rattle.client_world.specs.World.{World}
-use Rattle.guest_space.specs.declared.windows.CodeWindow.{CodeWindow}
-use Rattle.guest_space.specs.Windows.{IsWindow}
+use Rattle.std.specs.{Prelude.{◌≡◌, ◌⊎◌, ℕ, ◌+◌, ◌<◌, ◌≤◌, None, Some}, declared.option.Option.{Option}}
+use Rattle.client_world.specs.{declared.memory_map.TheConstants.{DOS_SIZE, ROM_START}, World.{World}}
+use Rattle.guest_space.specs.{declared.windows.CodeWindow.{CodeWindow}, Windows.{IsWindow}}
 use Rattle.host_memory.specs.View.{MachineView}
 
 -- an address outside read-only memory, where all trap bytes are

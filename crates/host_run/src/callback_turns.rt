@@ -3,8 +3,7 @@ ghost use Rattle.std.specs.Prelude.{◌≡◌};
 ghost use Rattle.callbacks.specs.Callbacks.{enter_callback, leave_callback};
 ghost use Rattle.client_world.specs.declared.registers.Mode.TheVariants.{Protected as protected, Real as real};
 ghost use Rattle.mode_stack.specs.Stack.{top};
-ghost use Rattle.host_run.specs.Turn.{after_callback, after_callback_return, callback_slot};
-ghost use Rattle.host_run.specs.View.{ComesTo, HasRoom};
+ghost use Rattle.host_run.specs.{Turn.{after_callback, after_callback_return, callback_slot}, View.{ComesTo, HasRoom}};
 
 use crate::host::Host;
 use crate::trace::{enter_line, leave_line};

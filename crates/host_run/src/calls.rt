@@ -1,8 +1,7 @@
 // Calls of real mode: those that the client asks for, interrupts that are reflected, and the return from both.
 ghost use Rattle.std.specs.Prelude.{◌≡◌, ◌<◌, false, IfSome};
 ghost use Rattle.client_world.specs.declared.limits.TheConstants.{GREATEST_DEPTH};
-ghost use Rattle.client_world.specs.declared.registers.Mode.TheVariants.{Protected as protected, Real as real};
-ghost use Rattle.client_world.specs.World.{depth};
+ghost use Rattle.client_world.specs.{declared.registers.Mode.TheVariants.{Protected as protected, Real as real}, World.{depth}};
 ghost use Rattle.mode_stack.specs.Stack.{top};
 ghost use Rattle.host_run.specs.Turn.{after_begin, after_call_return, after_reflected_interrupt, asked_call, call_of_record, goes_on};
 ghost use Rattle.host_run.specs.View.{ComesTo, HasRoom};

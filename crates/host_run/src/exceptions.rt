@@ -3,14 +3,8 @@ ghost use Rattle.std.specs.Prelude.{◌≡◌, ◌-◌, [], Ok, Err, MatchResult
 ghost use Rattle.client_world.specs.World.{depth};
 ghost use Rattle.guest_space.specs.Records.{OnlyAtAndRow};
 ghost use Rattle.mode_stack.specs.Stack.{top};
-ghost use Rattle.fault_service.specs.ByMode.{delivery};
-ghost use Rattle.fault_service.specs.Worlds.{world_exception_return};
-ghost use Rattle.host_run.specs.Turn.{
-  after_exception_return,
-  after_exception,
-  exception_number,
-};
-ghost use Rattle.host_run.specs.View.{ComesTo, HasRoom, machine_view};
+ghost use Rattle.fault_service.specs.{ByMode.{delivery}, Worlds.{world_exception_return}};
+ghost use Rattle.host_run.specs.{Turn.{after_exception_return, after_exception, exception_number}, View.{ComesTo, HasRoom, machine_view}};
 
 use crate::host::Host;
 use crate::trace::{enter_line, leave_line};

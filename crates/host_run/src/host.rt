@@ -1,20 +1,12 @@
 // The host and its turns.
 ghost use Rattle.std.specs.Prelude.{◌≡◌, ◌≢◌, ◌≤◌, ◌<◌, ◌+◌, ◌*◌, IfOk, OnOk, IfErr, IfSome, Ok, Err, Some, None, length, vec_capacity};
-ghost use Rattle.client_world.specs.declared.limits.TheConstants.{CONSOLE_ROOM, MAX_STEPS};
-ghost use Rattle.client_world.specs.Soundness.{IsSound, IsSoundHost};
-ghost use Rattle.interrupts.specs.Worlds.{world_interrupt};
+ghost use Rattle.client_world.specs.{declared.limits.TheConstants.{CONSOLE_ROOM, MAX_STEPS}, Soundness.{IsSound, IsSoundHost}};
+ghost use Rattle.interrupts.specs.{Worlds.{world_interrupt}, Delivery.{software_interrupt}};
 ghost use Rattle.mz_loader.specs.Refusal.{refusal};
-ghost use Rattle.interrupts.specs.Delivery.{software_interrupt};
-ghost use Rattle.host_run.specs.Footprint.{ChangesOnly, after_client_event, after_client_interrupt};
-ghost use Rattle.host_run.specs.Footprint.{trap_footprint, turn_footprint};
-ghost use Rattle.host_run.specs.Keys.{HasKeys};
-ghost use Rattle.host_run.specs.MakesTurn.{MakesTurn};
-ghost use Rattle.host_run.specs.Run.{run};
-ghost use Rattle.host_run.specs.Start.{blank, IsBlank, host_at_start};
-ghost use Rattle.host_run.specs.declared.traps.Trap.TheVariants.{NoTrap};
-ghost use Rattle.host_run.specs.Traps.{current_trap};
-ghost use Rattle.host_run.specs.View.{ComesTo, HasRoom, HostView, machine_view};
-ghost use Rattle.host_run.specs.Turn.{after_interrupt, after_step, after_trap, turn};
+ghost use Rattle.host_run.specs.Footprint.{ChangesOnly, after_client_event, after_client_interrupt, trap_footprint, turn_footprint};
+ghost use Rattle.host_run.specs.{Keys.{HasKeys}, MakesTurn.{MakesTurn}, Run.{run}, Start.{blank, IsBlank, host_at_start}};
+ghost use Rattle.host_run.specs.{declared.traps.Trap.TheVariants.{NoTrap}, Traps.{current_trap}, View.{ComesTo, HasRoom, HostView}};
+ghost use Rattle.host_run.specs.{View.{machine_view}, Turn.{after_interrupt, after_step, after_trap, turn}};
 
 use crate::ending::{Ended, Ending};
 use crate::traps::Trap;

@@ -1,34 +1,20 @@
 // The laws of the host's runs. Each is a function with nothing to do: its contract is the law.
 ghost use Rattle.std.specs.Prelude.{◌≡◌, ◌≢◌, ◌≤◌, ◌<◌, ◌+◌, ℕ, List, All, Contains, None, Ok, Err, Some, IsSome};
-ghost use Rattle.client_world.specs.declared.faults.Event.TheVariants.{Fault as a_fault, Soft};
-ghost use Rattle.client_world.specs.declared.faults.Fault.{Fault as AFault};
-ghost use Rattle.client_world.specs.declared.faults.TheConstants.{GENERAL_PROTECTION};
-ghost use Rattle.client_world.specs.declared.outcome.Exit.{Exit as AnExit};
-ghost use Rattle.client_world.specs.declared.outcome.Exit.TheVariants.{ConsoleFull};
-ghost use Rattle.client_world.specs.declared.registers.Regs.{Regs as AnyRegs};
-ghost use Rattle.client_world.specs.declared.services.Carry.{Carry as ACarry};
-ghost use Rattle.client_world.specs.Access.{IsHeld, fault_with};
-ghost use Rattle.client_world.specs.Soundness.{IsSound, IsSoundHost};
-ghost use Rattle.client_world.specs.World.{HostWorld, World};
-ghost use Rattle.client_world.specs.Console.{Extends};
+ghost use Rattle.client_world.specs.{declared.faults.Event.TheVariants.{Fault as a_fault, Soft}, declared.faults.Fault.{Fault as AFault}};
+ghost use Rattle.client_world.specs.{declared.faults.TheConstants.{GENERAL_PROTECTION}, declared.outcome.Exit.{Exit as AnExit}};
+ghost use Rattle.client_world.specs.{declared.outcome.Exit.TheVariants.{ConsoleFull}, declared.registers.Regs.{Regs as AnyRegs}};
+ghost use Rattle.client_world.specs.{declared.services.Carry.{Carry as ACarry}, Access.{IsHeld, fault_with}, Soundness.{IsSound}};
+ghost use Rattle.client_world.specs.{Soundness.{IsSoundHost}, World.{HostWorld, World}, Console.{Extends}};
 ghost use Rattle.interrupts.specs.Worlds.{world_interrupt, world_step};
 ghost use Rattle.guest_ram.specs.Bytes.{AreBytes};
 ghost use Rattle.host_memory.specs.View.{MachineView};
 ghost use Rattle.mz_loader.specs.Refusal.{refusal};
-ghost use Rattle.fault_service.specs.Memory.{IsMachineView};
-ghost use Rattle.fault_service.specs.StepMemory.{interrupt_places, written_places};
-ghost use Rattle.host_run.specs.Footprint.{ChangesOnly, client_footprint, client_turn};
-ghost use Rattle.host_run.specs.HandOver.{HandsOver};
-ghost use Rattle.host_run.specs.Keys.{HasKeys};
-ghost use Rattle.host_run.specs.Nested.{HasTurns, IsHandedOver, LastPush, Matched, Stacked, host_depth};
-ghost use Rattle.host_run.specs.RealCalls.{InterruptSource, from_anywhere, from_client, from_outside};
-ghost use Rattle.host_run.specs.OtherTurns.{IsOneQuietTurn, exception_turn, int31_turn, interrupt_turn};
-ghost use Rattle.host_run.specs.Run.{with_bound_exit, turns, run};
-ghost use Rattle.host_run.specs.Start.{blank, host_at_start};
-ghost use Rattle.host_run.specs.Touched.{touched_by_turn};
-ghost use Rattle.host_run.specs.declared.traps.Trap.TheVariants.{NoTrap};
-ghost use Rattle.host_run.specs.Traps.{current_trap};
-ghost use Rattle.host_run.specs.Turn.{turn};
+ghost use Rattle.fault_service.specs.{Memory.{IsMachineView}, StepMemory.{interrupt_places, written_places}};
+ghost use Rattle.host_run.specs.{Footprint.{ChangesOnly, client_footprint, client_turn}, HandOver.{HandsOver}, Keys.{HasKeys}};
+ghost use Rattle.host_run.specs.{Nested.{HasTurns, IsHandedOver, LastPush, Matched, Stacked, host_depth}, RealCalls.{InterruptSource}};
+ghost use Rattle.host_run.specs.{RealCalls.{from_anywhere, from_client, from_outside}, OtherTurns.{IsOneQuietTurn, exception_turn}};
+ghost use Rattle.host_run.specs.{OtherTurns.{int31_turn, interrupt_turn}, Run.{with_bound_exit, turns, run}, Start.{blank, host_at_start}};
+ghost use Rattle.host_run.specs.{Touched.{touched_by_turn}, declared.traps.Trap.TheVariants.{NoTrap}, Traps.{current_trap}, Turn.{turn}};
 
 use cpu_step::every_touched_place_is_held;
 use fault_service::{

@@ -2,17 +2,12 @@
 // outside; and the end of a run at its bound.
 ghost use Rattle.std.specs.Prelude.{◌≡◌, ◌<◌, true, Some, None, IsSome};
 ghost use Rattle.client_world.specs.declared.limits.TheConstants.{EXCEPTION_VECTORS, GREATEST_DEPTH, MAX_STEPS};
-ghost use Rattle.client_world.specs.declared.registers.Mode.TheVariants.{Protected as protected, Real as real};
-ghost use Rattle.client_world.specs.World.{depth};
+ghost use Rattle.client_world.specs.{declared.registers.Mode.TheVariants.{Protected as protected, Real as real}, World.{depth}};
 ghost use Rattle.interrupts.specs.Worlds.{world_interrupt};
-ghost use Rattle.host_run.specs.Footprint.{ChangesOnly, delivery_footprint, interrupt_footprint};
-ghost use Rattle.host_run.specs.MakesTurn.{MakesTurn};
+ghost use Rattle.host_run.specs.{Footprint.{ChangesOnly, delivery_footprint, interrupt_footprint}, MakesTurn.{MakesTurn}};
 ghost use Rattle.host_run.specs.OtherTurns.{exception_turn, int31_call, int31_turn, interrupt_turn, after_interrupt_in_mode};
 ghost use Rattle.host_run.specs.OtherTurns.{footprint_in_mode, is_hosts_vector, is_int31, outside_interrupt_footprint, with_interrupts_off};
-ghost use Rattle.host_run.specs.Traps.{current_trap};
-ghost use Rattle.host_run.specs.Run.{with_bound_exit};
-ghost use Rattle.host_run.specs.Turn.{after_interrupt};
-ghost use Rattle.host_run.specs.View.{ComesTo, HasRoom};
+ghost use Rattle.host_run.specs.{Traps.{current_trap}, Run.{with_bound_exit}, Turn.{after_interrupt}, View.{ComesTo, HasRoom}};
 
 use crate::host::Host;
 use crate::serving::{can_pop, pop_in_mode};

@@ -1,22 +1,10 @@
 // The entry to protected mode, and the default vectors of protected mode.
 ghost use Rattle.std.specs.Prelude.{◌≡◌, ◌||◌, true, false, nat_eq};
-ghost use Rattle.client_world.specs.declared.registers.Mode.TheVariants.{Protected as protected, Real as real};
+ghost use Rattle.client_world.specs.{declared.registers.Mode.TheVariants.{Protected as protected, Real as real}, Services.{is_set}};
 ghost use Rattle.interrupts.specs.Worlds.{world_after_iret};
-ghost use Rattle.host_run.specs.declared.vectors.TheConstants.{DPMI_INTERRUPT as dpmi_interrupt};
-ghost use Rattle.host_run.specs.View.{ComesTo, HasRoom};
-ghost use Rattle.client_world.specs.Services.{is_set};
-ghost use Rattle.host_run.specs.Turn.{
-  entry_line,
-  after_entry_trap,
-  goes_on,
-  after_int31,
-  after_service,
-  is_exit_call,
-  is_presence_call,
-  after_presence_call,
-  after_protected_pop,
-  after_protected_vector,
-};
+ghost use Rattle.host_run.specs.{declared.vectors.TheConstants.{DPMI_INTERRUPT as dpmi_interrupt}, View.{ComesTo, HasRoom}};
+ghost use Rattle.host_run.specs.Turn.{entry_line, after_entry_trap, goes_on, after_int31, after_service, is_exit_call, is_presence_call};
+ghost use Rattle.host_run.specs.Turn.{after_presence_call, after_protected_pop, after_protected_vector};
 
 use crate::calls::asked_call;
 use crate::families::serve_function;
@@ -27,8 +15,9 @@ use client_world::limits::GREATEST_DEPTH;
 use client_world::{Carry, Exit, Regs, TraceLine};
 use cpu_values::{part8, put16};
 use guest_space::Machine;
-use mode_gates::{asked_width, entry, with_carry};
+use mode_gates::{asked_width, entry};
 use mode_stack::depth;
+use service_rows::with_carry;
 
 // INT 21h function 4Ch, which ends the client.
 fn is_exit_call(m: &Machine, n: u8) -> bool
@@ -140,17 +129,17 @@ impl Host {
         }
     }
 
-    // A default vector of protected mode that serves: its frame is popped first.
+    // A default vector of protected mode that serves, as INT 2Fh AX = 1686h or as INT 31h: its frame is popped first.
     #[tactic(auto, unfolding(crate::specs::Turn::after_protected_call))]
-    fn pop_and_serve(&mut self, n: u8) -> Result<(), Exit>
+    fn pop_and_serve(&mut self, n: u8, presence: bool) -> Result<(), Exit>
         requires mode { self.old.world.machine.mode ≡ protected }
         requires exit { is_exit_call self.old.world.machine n ≡ false }
-        requires served { (is_presence_call self.old.world.machine n || nat_eq n dpmi_interrupt) ≡ true }
+        requires presence { presence ≡ is_presence_call self.old.world.machine n }
+        requires served { (presence || nat_eq n dpmi_interrupt) ≡ true }
         requires room { HasRoom self.old.world }
         ensures { ComesTo self.old self.new result
             (after_protected_pop self.old.world n (world_after_iret self.old.world.machine)) }
     {
-        let presence = is_presence_call(&self.machine, n);
         pop_in_mode(&mut self.machine)?;
         if presence {
             self.report_presence();
@@ -196,8 +185,9 @@ impl Host {
         if is_exit_call(&self.machine, n) {
             return self.end_client(n);
         }
-        if is_presence_call(&self.machine, n) || n == DPMI_INTERRUPT {
-            return self.pop_and_serve(n);
+        let presence = is_presence_call(&self.machine, n);
+        if presence || n == DPMI_INTERRUPT {
+            return self.pop_and_serve(n, presence);
         }
         self.pop_and_reflect(n)
     }

@@ -2,9 +2,7 @@
 ghost use Rattle.std.specs.Prelude.{◌≡◌, true, is_ok, Ok, Err, MatchResult, OnOk};
 ghost use Rattle.client_world.specs.declared.registers.Mode.TheVariants.{Real};
 ghost use Rattle.cpu_step.specs.Step.{client_step};
-ghost use Rattle.dos_calls.specs.Answering.{IfEnded};
-ghost use Rattle.dos_calls.specs.Calls.{dos_call};
-ghost use Rattle.dos_calls.specs.Multiplex.{multiplex_call};
+ghost use Rattle.dos_calls.specs.{Answering.{IfEnded}, Calls.{dos_call}, Multiplex.{multiplex_call}};
 ghost use Rattle.host_run.specs.Windows.{HasWindow, IsFound};
 ghost use Rattle.interrupts.specs.Worlds.{world_step, world_after_iret};
 

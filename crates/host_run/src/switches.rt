@@ -2,10 +2,9 @@
 ghost use Rattle.std.specs.Prelude.{◌≡◌};
 ghost use Rattle.client_world.specs.declared.registers.Mode.TheVariants.{Protected as protected, Real as real};
 ghost use Rattle.client_world.specs.declared.trace.TraceLine.TheVariants.{ToReal};
-ghost use Rattle.mode_gates.specs.FarFrames.{world_after_far_return};
-ghost use Rattle.mode_gates.specs.Switches.{world_after_switch_to_protected, world_after_switch_to_real};
-ghost use Rattle.host_run.specs.Turn.{after_switch_to_protected, goes_on_with, with_machine};
-ghost use Rattle.host_run.specs.View.{ComesTo, HasRoom};
+ghost use Rattle.mode_gates.specs.{FarFrames.{world_after_far_return}, Switches.{world_after_switch_to_protected}};
+ghost use Rattle.mode_gates.specs.Switches.{world_after_switch_to_real};
+ghost use Rattle.host_run.specs.{Turn.{after_switch_to_protected, goes_on_with, with_machine}, View.{ComesTo, HasRoom}};
 
 use crate::host::Host;
 use client_world::{Exit, TraceLine};

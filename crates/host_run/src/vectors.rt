@@ -2,9 +2,8 @@
 ghost use Rattle.std.specs.Prelude.{◌≡◌, true, is_ok};
 ghost use Rattle.client_world.specs.declared.registers.Mode.TheVariants.{Real};
 ghost use Rattle.interrupts.specs.Worlds.{world_after_iret};
-ghost use Rattle.host_run.specs.View.{ComesTo, HasRoom};
-ghost use Rattle.host_run.specs.Turn.{after_frame_pop, after_dos_call, after_multiplex_call, ends_client, after_default_vector};
-ghost use Rattle.host_run.specs.Turn.{after_real_vector};
+ghost use Rattle.host_run.specs.{View.{ComesTo, HasRoom}, Turn.{after_frame_pop, after_dos_call, after_multiplex_call, ends_client}};
+ghost use Rattle.host_run.specs.Turn.{after_default_vector, after_real_vector};
 
 use crate::host::Host;
 use crate::serving::{can_pop, serve_dos, serve_multiplex};

@@ -1,12 +1,9 @@
 // Turns in a window of code. While CS:EIP stays in one page outside read-only memory, a turn asks neither where its code is nor for a trap.
 ghost use Rattle.std.specs.Prelude.{◌≡◌, ◌+◌, ◌<◌, IfSome, IsTrue, None, Ok, OnOk, Some};
 ghost use Rattle.client_world.specs.declared.limits.TheConstants.{MAX_STEPS};
-ghost use Rattle.host_run.specs.declared.traps.Trap.TheVariants.{NoTrap};
-ghost use Rattle.host_run.specs.Footprint.{ChangesOnly, client_footprint, client_turn, turn_footprint, work_footprint};
-ghost use Rattle.host_run.specs.MakesTurn.{AnswersBy, MakesTurn, turn_answer};
-ghost use Rattle.host_run.specs.Traps.{current_trap};
-ghost use Rattle.host_run.specs.Turn.{after_next_instruction, turn, work};
-ghost use Rattle.host_run.specs.View.{ComesTo, HasRoom, machine_view};
+ghost use Rattle.host_run.specs.{declared.traps.Trap.TheVariants.{NoTrap}, Footprint.{ChangesOnly, client_footprint, client_turn}};
+ghost use Rattle.host_run.specs.{Footprint.{turn_footprint, work_footprint}, MakesTurn.{AnswersBy, MakesTurn, turn_answer}};
+ghost use Rattle.host_run.specs.{Traps.{current_trap}, Turn.{after_next_instruction, turn, work}, View.{ComesTo, HasRoom, machine_view}};
 ghost use Rattle.host_run.specs.Windows.{HasWindow, IsFound, IsOutside, IsStart, IsTrapFree};
 
 use crate::ending::{Ended, Ending};

@@ -1,16 +1,12 @@
 -- The answers of decode, and the two laws of the grammar.
 use Rattle.std.proofs.Common.{◌≡◌, ℕ, zero, suc, ◌-◌, ◌<◌, ◌≤◌, Bool, List, [], ◌∷◌, ◌++◌, length, take, get_or, Ok, Err, refl, sym, ap}
-use Rattle.std.proofs.Common.{subst, ◌∙◌, append_assoc, arith, length-append, ◌⊎◌, inl, inr}
-use Rattle.std.proofs.lemmas.List.{append-nil, take_at}
-use Rattle.insn_decode.specs.declared.stop.Stop.TheVariants as stops
-use Rattle.insn_forms.specs.declared.insn.Insn.{Insn}
-use Rattle.insn_decode.specs.declared.decoding.Decoded.TheVariants.{Whole, More, Invalid}
-use Rattle.insn_forms.specs.Grammar.{AllBytes, Encoding, HasEncoding, BeginsEncoding}
-use Rattle.insn_decode.specs.Reading.{Read, head_at, insn_at}
+use Rattle.std.proofs.{Common.{subst, ◌∙◌, append_assoc, arith, length-append, ◌⊎◌, inl, inr}, lemmas.List.{append-nil, take_at}}
+use Rattle.insn_forms.specs.{declared.insn.Insn.{Insn}, Grammar.{AllBytes, Encoding, HasEncoding, BeginsEncoding}}
+use Rattle.insn_decode.specs.{declared.decoding.Decoded.TheVariants.{Whole, More, Invalid}, Reading.{Read, head_at, insn_at}}
 use Rattle.insn_decode.specs.Decode.{answer_of, decoded}
-use Rattle.insn_decode.proofs.LawfulReaders.{ok_is, ok_not_err, bytes_append}
-use Rattle.insn_decode.proofs.InsnReaders.{insn_reads}
-use Rattle.insn_decode.proofs.Encodings.{to_readers, from_readers}
+use Rattle.insn_decode.proofs.{LawfulReaders.{ok_is, ok_not_err, bytes_append}, InsnReaders.{insn_reads}, Encodings.{to_readers}}
+use Rattle.insn_decode.proofs.Encodings.{from_readers}
+use Rattle.insn_decode.specs.declared.stop.Stop.TheVariants as stops
 
 -- a list of bytes, by its places
 pub bytes_by_place : (xs : List ℕ) → ((i : ℕ) → get_or xs i 0 < 256) → AllBytes xs

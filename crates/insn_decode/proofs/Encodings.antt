@@ -1,33 +1,20 @@
 -- What the readers read is the grammar.
 use Rattle.std.proofs.Common.{◌≡◌, ℕ, Bool, true, false, ◌||◌, eqb, List, [], ◌∷◌, ◌++◌, Option, Some, None, refl, sym, ap, subst, ◌∙◌}
-use Rattle.std.proofs.Common.{append_assoc, arith}
-use Rattle.std.proofs.lemmas.List.{append-nil}
-use Rattle.insn_forms.specs.declared.insn.Rep.{Rep}
-use Rattle.insn_forms.specs.declared.insn.Rep.TheVariants as reps
-use Rattle.insn_forms.specs.declared.pieces.Prefixes.{Prefixes}
-use Rattle.insn_forms.specs.declared.pieces.Head.{Head}
-use Rattle.insn_forms.specs.declared.pieces.Addressing.{Addressing}
-use Rattle.insn_forms.specs.declared.insn.Operand.{Operand}
-use Rattle.insn_forms.specs.declared.insn.Insn.{Insn}
-use Rattle.insn_forms.specs.Prefixes.{segment_of, repeat_of, or_else, last_of, has, rep_or_plain, prefixes_of}
-use Rattle.insn_forms.specs.Operands.{operand, insn_of}
-use Rattle.insn_forms.specs.Grammar.{AllBytes, opcode_bytes, little_endian, Pieces, head_of, addressing_of, AreRow, insn_of_pieces}
-use Rattle.insn_forms.specs.Grammar.{Encoding}
-use Rattle.insn_forms.specs.Grammar.{row_with, wide_of, addr32_of}
+use Rattle.std.proofs.{Common.{append_assoc, arith}, lemmas.List.{append-nil}, Math.Bool.{or_assoc}}
+use Rattle.insn_forms.specs.{declared.insn.Rep.{Rep}, declared.pieces.Prefixes.{Prefixes}, declared.pieces.Head.{Head}}
+use Rattle.insn_forms.specs.{declared.pieces.Addressing.{Addressing}, declared.insn.Operand.{Operand}, declared.insn.Insn.{Insn}}
+use Rattle.insn_forms.specs.{Prefixes.{segment_of, repeat_of, or_else, last_of, has, rep_or_plain, prefixes_of}, Operands.{operand}}
+use Rattle.insn_forms.specs.{Operands.{insn_of}, Grammar.{AllBytes, opcode_bytes, little_endian, Pieces, head_of, addressing_of, AreRow}}
+use Rattle.insn_forms.specs.Grammar.{insn_of_pieces, Encoding, row_with, wide_of, addr32_of}
 use Rattle.insn_decode.specs.Reading.{no_prefixes, with_prefix, opcode_head}
-use Rattle.insn_decode.proofs.LawfulReaders.{Number}
-use Rattle.insn_decode.proofs.HeadReaders.{folded}
-use Rattle.insn_decode.proofs.InsnReaders.{EncodesInsn, row_any}
+use Rattle.insn_decode.proofs.{LawfulReaders.{Number}, HeadReaders.{folded}, InsnReaders.{EncodesInsn, row_any}}
+use Rattle.insn_forms.specs.declared.insn.Rep.TheVariants as reps
 
 -- ---- prefixes: the prefixes one after another are those of the list
 
 else_assoc : {A : Type 0} (a b c : Option A) → or_else a (or_else b c) ≡ or_else (or_else a b) c
 else_assoc (Some x) b c = refl
 else_assoc None b c = refl
-
-or_assoc : (a b c : Bool) → ((a || b) || c) ≡ (a || (b || c))
-or_assoc true b c = refl
-or_assoc false b c = refl
 
 or_none : (a : Bool) → a ≡ (a || false)
 or_none true = refl

@@ -1,21 +1,14 @@
 -- Prefixes and the opcode.
 use Rattle.std.proofs.Common.{◌≡◌, ℕ, zero, suc, ◌<◌, Bool, true, false, ◌||◌, eqb, List, [], ◌∷◌, ◌++◌, Ok, Err, refl, sym, ap, subst, ◌∙◌}
-use Rattle.std.proofs.Common.{append_assoc, arith, ◌⊎◌, inl, inr}
+use Rattle.std.proofs.{Common.{append_assoc, arith, ◌⊎◌, inl, inr}, lemmas.Bool.{eqb-true, or_cases, false≢true, cases_Bool, cases_eq}}
 use Rattle.std.specs.List.{AllByRecursion}
-use Rattle.std.proofs.lemmas.Bool.{eqb-true, or_cases, false≢true, cases_Bool, cases_eq}
-use Rattle.insn_decode.specs.declared.stop.Stop.TheVariants.{More, Invalid}
-use Rattle.insn_forms.specs.declared.rows.OpMap.{OpMap}
-use Rattle.insn_forms.specs.declared.rows.OpMap.TheVariants.{One, Two}
-use Rattle.insn_forms.specs.declared.pieces.Prefixes.{Prefixes}
-use Rattle.insn_forms.specs.declared.pieces.Head.{Head}
-use Rattle.insn_forms.specs.declared.rows.Row.{Row}
-use Rattle.insn_forms.specs.OpcodeMap.{opcode_row, row_one, row_two, map_one_00, map_one_20, map_one_60, map_one_e0, map_two_a0, group_0fba}
-use Rattle.insn_forms.specs.Prefixes.{is_prefix, is_one_of}
-use Rattle.insn_forms.specs.Addressing.{modrm_size}
-use Rattle.insn_forms.specs.Kinds.{operation}
-use Rattle.insn_forms.specs.Operands.{has_op, is_row}
-use Rattle.insn_forms.specs.Grammar.{AllBytes, ArePrefixes, is_row_with, opcode_bytes}
-use Rattle.insn_decode.specs.Reading.{with_prefix, any_below, any_row, opcode_head, checked, two_at, opcode_at, head_at}
+use Rattle.insn_decode.specs.{declared.stop.Stop.TheVariants.{More, Invalid}, Reading.{with_prefix, any_below, any_row, opcode_head}}
+use Rattle.insn_decode.specs.Reading.{checked, two_at, opcode_at, head_at}
+use Rattle.insn_forms.specs.{declared.rows.OpMap.{OpMap}, declared.rows.OpMap.TheVariants.{One, Two}, declared.pieces.Prefixes.{Prefixes}}
+use Rattle.insn_forms.specs.{declared.pieces.Head.{Head}, declared.rows.Row.{Row}, OpcodeMap.{opcode_row, row_one, row_two, map_one_00}}
+use Rattle.insn_forms.specs.{OpcodeMap.{map_one_20, map_one_60, map_one_e0, map_two_a0, group_0fba}, Prefixes.{is_prefix, is_one_of}}
+use Rattle.insn_forms.specs.{Addressing.{modrm_size}, Kinds.{operation}, Operands.{has_op, is_row}, Grammar.{AllBytes, ArePrefixes}}
+use Rattle.insn_forms.specs.Grammar.{is_row_with, opcode_bytes}
 use Rattle.insn_decode.proofs.LawfulReaders.{Reads, answer, ok_is, ok_not_err, err_not_ok, more_not_invalid, chosen}
 
 -- ---- tests

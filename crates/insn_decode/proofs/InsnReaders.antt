@@ -1,22 +1,14 @@
 -- The readers of an instruction, one after another.
 use Rattle.std.proofs.Common.{◌≡◌, ℕ, ◌+◌, ◌*◌, ◌<◌, Bool, true, false, cond, not, ◌&&◌, ◌||◌, eqb, List, [], ◌∷◌, ◌++◌, Ok, Err, refl, sym}
-use Rattle.std.proofs.Common.{ap, subst, ◌∙◌, append_assoc, arith, ◌⊎◌, inl, inr}
-use Rattle.std.proofs.lemmas.Bool.{eqb-true, eqb-false, false≢true, cases_Bool}
-use Rattle.std.proofs.lemmas.List.{nil_from_length}
-use Rattle.insn_decode.specs.declared.stop.Stop.TheVariants.{More, Invalid}
-use Rattle.insn_forms.specs.declared.rows.OpMap.{OpMap}
-use Rattle.insn_forms.specs.declared.pieces.Head.{Head}
-use Rattle.insn_forms.specs.declared.pieces.Addressing.{Addressing}
-use Rattle.insn_forms.specs.declared.insn.Operand.{Operand}
-use Rattle.insn_forms.specs.declared.rows.Form.{Form}
-use Rattle.insn_forms.specs.declared.insn.Insn.{Insn}
-use Rattle.insn_forms.specs.declared.rows.Row.{Row}
-use Rattle.insn_forms.specs.OpcodeMap.{opcode_row}
-use Rattle.insn_forms.specs.Addressing.{has_modrm, modrm_size, sib_size, disp_size}
-use Rattle.insn_forms.specs.Operands.{has_op, may_lock, is_m, is_row, imm_size, operand, insn_of}
-use Rattle.insn_forms.specs.Grammar.{AllBytes, wide_of, addr32_of, row_with, is_row_with}
-use Rattle.insn_decode.specs.Reading.{◌>>=◌, Read, number_at, no_prefixes, any_below, any_row, head_at, modrm_at, addressing_at, operand_at}
-use Rattle.insn_decode.specs.Reading.{rest_at, insn_at}
+use Rattle.std.proofs.{Common.{ap, subst, ◌∙◌, append_assoc, arith, ◌⊎◌, inl, inr}, lemmas.Bool.{eqb-true, eqb-false, false≢true}}
+use Rattle.std.proofs.{lemmas.Bool.{cases_Bool}, lemmas.List.{nil_from_length}}
+use Rattle.insn_decode.specs.{declared.stop.Stop.TheVariants.{More, Invalid}, Reading.{◌>>=◌, Read, number_at, no_prefixes, any_below}}
+use Rattle.insn_decode.specs.Reading.{any_row, head_at, modrm_at, addressing_at, operand_at, rest_at, insn_at}
+use Rattle.insn_forms.specs.{declared.rows.OpMap.{OpMap}, declared.pieces.Head.{Head}, declared.pieces.Addressing.{Addressing}}
+use Rattle.insn_forms.specs.{declared.insn.Operand.{Operand}, declared.rows.Form.{Form}, declared.insn.Insn.{Insn}, declared.rows.Row.{Row}}
+use Rattle.insn_forms.specs.{OpcodeMap.{opcode_row}, Addressing.{has_modrm, modrm_size, sib_size, disp_size}, Operands.{has_op, may_lock}}
+use Rattle.insn_forms.specs.{Operands.{is_m, is_row, imm_size, operand, insn_of}, Grammar.{AllBytes, wide_of, addr32_of, row_with}}
+use Rattle.insn_forms.specs.Grammar.{is_row_with}
 use Rattle.insn_decode.proofs.LawfulReaders.{Reads, ok_is, ok_not_err, err_not_ok, more_not_invalid, chosen, bind_ok, bind_err, Then}
 use Rattle.insn_decode.proofs.LawfulReaders.{then_reads, then_some, Done, done_reads, Number, number_reads, some_number}
 use Rattle.insn_decode.proofs.HeadReaders.{EncodesHead, head_reads, any_found, any_from}

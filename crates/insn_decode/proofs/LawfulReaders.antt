@@ -1,10 +1,8 @@
 -- Readers whose four answers are right, and how they are put together.
 use Rattle.std.proofs.Common.{◌≡◌, ℕ, zero, suc, ◌+◌, ◌*◌, Bool, true, false, cond, List, [], ◌∷◌, ◌++◌, length, Result, Ok, Err, refl, sym}
 use Rattle.std.proofs.Common.{ap, ◌∙◌, append_assoc, arith, ◌⊎◌, inl, inr}
-use Rattle.insn_decode.specs.declared.stop.Stop.{Stop}
-use Rattle.insn_decode.specs.declared.stop.Stop.TheVariants.{More, Invalid}
+use Rattle.insn_decode.specs.{declared.stop.Stop.{Stop}, declared.stop.Stop.TheVariants.{More, Invalid}, Reading.{◌>>=◌, Read, number_at}}
 use Rattle.insn_forms.specs.Grammar.{AllBytes, little_endian}
-use Rattle.insn_decode.specs.Reading.{◌>>=◌, Read, number_at}
 
 -- What a reader gives is what the bytes encode; what they encode it gives; at More the bytes can be completed; and Invalid stays.
 pub record Reads {A : Type 0} (S : A → List ℕ → Type 0) (r : List ℕ → Read A) : Type 0 where

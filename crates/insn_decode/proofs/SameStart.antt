@@ -1,17 +1,11 @@
 -- Code bytes that agree in the bytes of an instruction.
 use Rattle.std.proofs.Common.{◌≡◌, ℕ, zero, suc, ◌-◌, ◌*◌, ◌/◌, ◌%◌, ◌^◌, ◌<◌, ◌≤◌, Bool, List, ◌++◌, length, take, drop, sym, ap, ◌∙◌}
-use Rattle.std.proofs.Common.{arith, lit<}
-use Rattle.std.proofs.Math.Arith.{mod-mul}
-use Rattle.std.proofs.Math.Nat.{mul-div_cancel, mul-mod_left}
-use Rattle.std.proofs.lemmas.List.{take-append-drop, length-take-le}
-use Rattle.std.proofs.lemmas.Nat.{div-mul-add, mod-mul-add, mod_below}
-use Rattle.client_world.specs.declared.code.CodeWords.{CodeWords}
-use Rattle.client_world.specs.CodeWords.{code_bytes}
-use Rattle.insn_decode.specs.declared.decoding.Decoded.TheVariants.{Whole}
-use Rattle.insn_decode.specs.Decode.{decoded}
+use Rattle.std.proofs.{Common.{arith, lit<}, Math.Arith.{mod-mul}, Math.Nat.{mul-div_cancel, mul-mod_left}, lemmas.List.{take-append-drop}}
+use Rattle.std.proofs.{lemmas.List.{length-take-le}, lemmas.Nat.{div-mul-add, mod-mul-add, mod_below}}
+use Rattle.client_world.specs.{declared.code.CodeWords.{CodeWords}, CodeWords.{code_bytes}}
+use Rattle.insn_decode.specs.{declared.decoding.Decoded.TheVariants.{Whole}, Decode.{decoded}}
 use Rattle.insn_decode.proofs.Answering.{decoded_only, decoded_whole}
-use Rattle.insn_forms.specs.declared.insn.Insn.{Insn}
-use Rattle.insn_forms.specs.Grammar.{AllBytes}
+use Rattle.insn_forms.specs.{declared.insn.Insn.{Insn}, Grammar.{AllBytes}}
 
 -- ---- numbers that are the same after a shift
 

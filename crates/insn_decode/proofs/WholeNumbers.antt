@@ -1,9 +1,7 @@
 -- Numbers of one, two and four bytes, read whole.
 use Rattle.std.proofs.Common.{◌≡◌, ℕ, zero, suc, ◌+◌, ◌-◌, ◌*◌, ◌<◌, ◌≤◌, List, [], ◌∷◌, length, get_or, take, drop, Ok, Err, refl, sym, ap}
-use Rattle.std.proofs.Common.{◌∙◌, arith}
-use Rattle.std.proofs.lemmas.List.{take_all, length-drop}
-use Rattle.insn_decode.specs.declared.stop.Stop.TheVariants.{More}
-use Rattle.insn_decode.specs.Reading.{Read, number_at}
+use Rattle.std.proofs.{Common.{◌∙◌, arith}, lemmas.List.{take_all, length-drop}}
+use Rattle.insn_decode.specs.{declared.stop.Stop.TheVariants.{More}, Reading.{Read, number_at}}
 
 pub too_few : (n : ℕ) (bs : List ℕ) → length bs < n → number_at n bs ≡ Err More
 unfolding number_at

@@ -1,10 +1,9 @@
 -- What `decode` returns: what reading from left to right gives (own).
 use Rattle.std.specs.Prelude.{ℕ, ◌-◌, Bool, List, length, Ok, Err}
-use Rattle.insn_decode.specs.declared.stop.Stop.TheVariants as stops
-use Rattle.insn_decode.specs.declared.decoding.Decoded.{Decoded}
-use Rattle.insn_decode.specs.declared.decoding.Decoded.TheVariants.{Whole, More, Invalid}
-use Rattle.insn_forms.specs.declared.insn.Insn.{Insn}
+use Rattle.insn_decode.specs.{declared.decoding.Decoded.{Decoded}, declared.decoding.Decoded.TheVariants.{Whole, More, Invalid}}
 use Rattle.insn_decode.specs.Reading.{Read, insn_at}
+use Rattle.insn_forms.specs.declared.insn.Insn.{Insn}
+use Rattle.insn_decode.specs.declared.stop.Stop.TheVariants as stops
 
 -- what was read, as `decode` returns it: the length is that of the bytes without the rest
 abbrev pub answer_of : List ℕ → Read Insn → Decoded

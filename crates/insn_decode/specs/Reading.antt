@@ -2,22 +2,13 @@
 -- where the grammar is a relation; the contract of `decode` says that both are the same.
 use Rattle.std.specs.Prelude.{◌≡◌, ℕ, zero, suc, ◌+◌, ◌*◌, Bool, true, false, Some, None, List, [], ◌∷◌, Result, Ok, Err, ◌==◌, ◌||◌}
 use Rattle.std.specs.Prelude.{if◌then◌else◌}
-use Rattle.insn_decode.specs.declared.stop.Stop.{Stop}
-use Rattle.insn_decode.specs.declared.stop.Stop.TheVariants.{More, Invalid}
+use Rattle.insn_decode.specs.{declared.stop.Stop.{Stop}, declared.stop.Stop.TheVariants.{More, Invalid}}
+use Rattle.insn_forms.specs.{declared.rows.OpMap.{OpMap}, declared.rows.OpMap.TheVariants.{One, Two}, declared.pieces.Prefixes.{Prefixes}}
+use Rattle.insn_forms.specs.{declared.pieces.Head.{Head}, declared.pieces.Addressing.{Addressing}, declared.insn.Insn.{Insn}}
+use Rattle.insn_forms.specs.{declared.rows.Form.{Form}, declared.insn.Operand.{Operand}, OpcodeMap.{opcode_row}, Prefixes.{segment_of}}
+use Rattle.insn_forms.specs.{Prefixes.{repeat_of, is_prefix, or_else, rep_or_plain}, Addressing.{modrm_size, sib_size, disp_size}}
+use Rattle.insn_forms.specs.{Operands.{is_row, imm_size, operand, insn_of}, Grammar.{wide_of, addr32_of, row_with, is_row_with}}
 use Rattle.insn_forms.specs.declared.insn.Rep.TheVariants as reps
-use Rattle.insn_forms.specs.declared.rows.OpMap.{OpMap}
-use Rattle.insn_forms.specs.declared.rows.OpMap.TheVariants.{One, Two}
-use Rattle.insn_forms.specs.declared.pieces.Prefixes.{Prefixes}
-use Rattle.insn_forms.specs.declared.pieces.Head.{Head}
-use Rattle.insn_forms.specs.declared.pieces.Addressing.{Addressing}
-use Rattle.insn_forms.specs.declared.insn.Insn.{Insn}
-use Rattle.insn_forms.specs.declared.rows.Form.{Form}
-use Rattle.insn_forms.specs.declared.insn.Operand.{Operand}
-use Rattle.insn_forms.specs.OpcodeMap.{opcode_row}
-use Rattle.insn_forms.specs.Prefixes.{segment_of, repeat_of, is_prefix, or_else, rep_or_plain}
-use Rattle.insn_forms.specs.Addressing.{modrm_size, sib_size, disp_size}
-use Rattle.insn_forms.specs.Operands.{is_row, imm_size, operand, insn_of}
-use Rattle.insn_forms.specs.Grammar.{wide_of, addr32_of, row_with, is_row_with}
 
 -- the one reading after the other; it stops where the first stops
 infixl 10 ◌>>=◌

@@ -1,8 +1,7 @@
 // ModRM, SIB and displacement, and the place in memory that they name.
 ghost use Rattle.std.specs.Prelude.{◌≡◌, ◌≤◌, IfOk};
 ghost use Rattle.insn_forms.specs.Addressing.{in_memory, is_lone, sib_size, disp_size, sign_extended_byte, base16, index16, base32};
-ghost use Rattle.insn_forms.specs.Addressing.{index32, scale_of, place, displacement, memory};
-ghost use Rattle.insn_forms.specs.Grammar.{row_with};
+ghost use Rattle.insn_forms.specs.{Addressing.{index32, scale_of, place, displacement, memory}, Grammar.{row_with}};
 ghost use Rattle.insn_decode.specs.Reading.{IsReading, modrm_at, addressing_at};
 
 use crate::head::{row_stands, size_of_modrm};

@@ -1,7 +1,6 @@
 // The instruction that some bytes start with.
 ghost use Rattle.std.specs.Prelude.{◌≡◌, ◌≤◌, ◌↔◌, ℕ, List, ◌++◌, length, take};
-ghost use Rattle.insn_forms.specs.Grammar.{AllBytes, Encoding, HasEncoding, BeginsEncoding};
-ghost use Rattle.insn_forms.specs.declared.insn.Insn.{Insn as AnInsn};
+ghost use Rattle.insn_forms.specs.{Grammar.{AllBytes, Encoding, HasEncoding, BeginsEncoding}, declared.insn.Insn.{Insn as AnInsn}};
 ghost use Rattle.insn_decode.specs.Decode.{decoded};
 
 use crate::reading::insn;

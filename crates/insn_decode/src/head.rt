@@ -1,8 +1,6 @@
 // The prefixes and the opcode.
 ghost use Rattle.std.specs.Prelude.{◌≡◌, ◌≤◌, ◌||◌, IsTrue, true};
-ghost use Rattle.insn_forms.specs.OpcodeMap.{opcode_row};
-ghost use Rattle.insn_forms.specs.Prefixes.{is_prefix, segment_of};
-ghost use Rattle.insn_forms.specs.Addressing.{has_modrm, modrm_size};
+ghost use Rattle.insn_forms.specs.{OpcodeMap.{opcode_row}, Prefixes.{is_prefix, segment_of}, Addressing.{has_modrm, modrm_size}};
 ghost use Rattle.insn_forms.specs.Operands.{has_op, may_lock, is_m, is_row};
 ghost use Rattle.insn_decode.specs.Reading.{IsReading, with_prefix, any_below, any_row, checked, two_at, opcode_at, head_at, no_prefixes};
 

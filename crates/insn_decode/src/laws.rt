@@ -1,9 +1,7 @@
 // What holds of all encodings.
 ghost use Rattle.std.specs.Prelude.{◌≡◌, ◌≤◌, ◌↔◌, List, ℕ, ◌++◌, [], Bool, length, take};
-ghost use Rattle.insn_forms.specs.Grammar.{AllBytes, Encoding, HasEncoding, BeginsEncoding};
-ghost use Rattle.insn_forms.specs.declared.insn.Insn.{Insn as AnInsn};
-ghost use Rattle.insn_decode.specs.Decode.{decoded};
-ghost use Rattle.insn_decode.specs.declared.decoding.Decoded.TheVariants.{Whole, More, Invalid};
+ghost use Rattle.insn_forms.specs.{Grammar.{AllBytes, Encoding, HasEncoding, BeginsEncoding}, declared.insn.Insn.{Insn as AnInsn}};
+ghost use Rattle.insn_decode.specs.{Decode.{decoded}, declared.decoding.Decoded.TheVariants.{Whole, More, Invalid}};
 
 /// Bytes encode at most one instruction, and no encoding begins another.
 /// Source: own, of 80386 Programmer's Reference Manual, ch. 17 and appendix A.

@@ -1,10 +1,8 @@
 // Instructions that were decoded before.
 ghost use Rattle.std.specs.Prelude.{◌≡◌, ◌<◌, ◌*◌, ◌^◌, ◌%◌, IfSome, IsTrue, length, take};
-ghost use Rattle.client_world.specs.CodeWords.{code_bytes};
-ghost use Rattle.client_world.specs.declared.code.CodeWords.{CodeWords as Words};
-ghost use Rattle.insn_decode.specs.Decode.{decoded};
-ghost use Rattle.insn_decode.specs.declared.decoding.Decoded.TheVariants.{Whole};
-ghost use Rattle.insn_decode.specs.declared.memo.TheConstants.{PLACES, WORD_BYTES};
+ghost use Rattle.client_world.specs.{CodeWords.{code_bytes}, declared.code.CodeWords.{CodeWords as Words}};
+ghost use Rattle.insn_decode.specs.{Decode.{decoded}, declared.decoding.Decoded.TheVariants.{Whole}, declared.memo.TheConstants.{PLACES}};
+ghost use Rattle.insn_decode.specs.declared.memo.TheConstants.{WORD_BYTES};
 ghost use Rattle.insn_forms.specs.Kinds.{IsWellFormed};
 
 use crate::decoding::{Decoded, decode};

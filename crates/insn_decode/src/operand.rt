@@ -1,9 +1,7 @@
 // What the forms of a row denote.
 ghost use Rattle.std.specs.Prelude.{◌≡◌, ◌<◌, ◌≤◌, ◌^◌, ◌%◌, if◌then◌else◌, false};
-ghost use Rattle.insn_forms.specs.declared.rows.Form.TheVariants.{Ip};
-ghost use Rattle.insn_forms.specs.Prefixes.{toggled};
-ghost use Rattle.insn_forms.specs.Operands.{operand, width_of, register_or_memory, segment_register, far_pointer, imm_size, form_width};
-ghost use Rattle.insn_forms.specs.Operands.{row_width, insn_of};
+ghost use Rattle.insn_forms.specs.{declared.rows.Form.TheVariants.{Ip}, Prefixes.{toggled}, Operands.{operand, width_of}};
+ghost use Rattle.insn_forms.specs.Operands.{register_or_memory, segment_register, far_pointer, imm_size, form_width, row_width, insn_of};
 
 use crate::address::{extended, place_in_memory, place_of};
 use client_world::{FarPtr, SegReg};

@@ -1,21 +1,16 @@
 -- What a test finds of each line of a map it finds of each row, and what it finds of each row's forms it finds of what
 -- they denote.
 use Rattle.std.proofs.Common.{◌≡◌, ℕ, zero, suc, ◌+◌, ◌%◌, ◌<◌, Bool, true, false, ◌&&◌, ◌||◌, not, List, [], ◌∷◌, refl, ap, ◌∙◌, arith}
+use Rattle.std.proofs.{Common.{inl, inr}, lemmas.Bool.{cond_both, and_parts, cases_eq}}
 use Rattle.std.specs.Prelude.{nat_le, nat_lt, ◌==◌}
-use Rattle.std.proofs.lemmas.Bool.{cond_both, and_parts, cases_eq}
-use Rattle.std.proofs.Common.{inl, inr}
-use Rattle.insn_forms.specs.declared.rows.OpMap.{OpMap}
-use Rattle.insn_forms.specs.declared.rows.OpMap.TheVariants.{One, Two}
-use Rattle.insn_forms.specs.declared.rows.Form.{Form}
+use Rattle.insn_forms.specs.{declared.rows.OpMap.{OpMap}, declared.rows.OpMap.TheVariants.{One, Two}, declared.rows.Form.{Form}}
+use Rattle.insn_forms.specs.{declared.rows.Row.{Row}, OpcodeMap.{Line, at, span, six, conditions, group, pick, look, no_row, usual_rows}}
+use Rattle.insn_forms.specs.OpcodeMap.{opcode_row, row_one, row_two, map_one_00, map_one_20, map_one_40, map_one_60, map_one_80, map_one_a0}
+use Rattle.insn_forms.specs.OpcodeMap.{map_one_c0, map_one_e0, map_two_00, map_two_80, map_two_a0, arithmetic, shifts, unary_group, alone}
+use Rattle.insn_forms.specs.{OpcodeMap.{group_8c, group_8e, group_fe, group_ff, group_0f00, group_0f01, group_0fba}, Operands.{op_of}}
+use Rattle.insn_forms.specs.{Operands.{has_op, row_width}, Kinds.{Kind, nothing, register, segment, memory, immediate, far, operation}}
+use Rattle.insn_forms.specs.Kinds.{suits, has_good_number, is_wide_only}
 use Rattle.insn_forms.specs.declared.rows.Form.TheVariants as forms
-use Rattle.insn_forms.specs.declared.rows.Row.{Row}
-use Rattle.insn_forms.specs.OpcodeMap.{Line, at, span, six, conditions, group, pick, look, no_row, usual_rows, opcode_row, row_one, row_two}
-use Rattle.insn_forms.specs.OpcodeMap.{map_one_00, map_one_20, map_one_40, map_one_60, map_one_80, map_one_a0, map_one_c0, map_one_e0}
-use Rattle.insn_forms.specs.OpcodeMap.{map_two_00, map_two_80, map_two_a0, arithmetic, shifts, unary_group, alone, group_8c, group_8e}
-use Rattle.insn_forms.specs.OpcodeMap.{group_fe, group_ff, group_0f00, group_0f01, group_0fba}
-use Rattle.insn_forms.specs.Operands.{op_of, has_op, row_width}
-use Rattle.insn_forms.specs.Kinds.{Kind, nothing, register, segment, memory, immediate, far, operation, suits, has_good_number}
-use Rattle.insn_forms.specs.Kinds.{is_wide_only}
 
 -- ---- tests of maps
 

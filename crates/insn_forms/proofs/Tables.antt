@@ -1,16 +1,11 @@
 -- The static tables have the rows of the maps.
 use Rattle.std.proofs.Common.{◌≡◌, ℕ, zero, suc, ◌+◌, ◌<◌, true, false, List, [], ◌∷◌, get_or, map, eqb, refl, sym, ap, ◌∙◌, arith}
-use Rattle.std.proofs.lemmas.List.{get_or-map}
-use Rattle.std.proofs.lemmas.Bool.{eq-eqb, ne_eqb}
-use Rattle.insn_forms.specs.declared.rows.Row.{Row}
-use Rattle.insn_forms.specs.declared.rows.Form.TheVariants.{Empty}
-use Rattle.insn_forms.specs.declared.rows.OpMap.TheVariants.{One, Two}
+use Rattle.std.proofs.{lemmas.List.{get_or-map}, lemmas.Bool.{eq-eqb, ne_eqb}}
+use Rattle.insn_forms.specs.{declared.rows.Row.{Row}, declared.rows.Form.TheVariants.{Empty}, declared.rows.OpMap.TheVariants.{One, Two}}
 use Rattle.insn_forms.specs.OpcodeMap.{no_row, pick, opcode_row, row_one, row_two, map_one_00, map_one_20, map_one_40, map_one_60}
 use Rattle.insn_forms.specs.OpcodeMap.{map_one_80, map_one_a0, map_one_c0, map_one_e0, map_two_00, map_two_80, map_two_a0, arithmetic}
 use Rattle.insn_forms.specs.OpcodeMap.{shifts, unary_group, alone, group_8c, group_8e, group_fe, group_ff, group_0f00, group_0f01}
-use Rattle.insn_forms.specs.OpcodeMap.{group_0fba}
-use Rattle.insn_forms.specs.declared.rows.Slot.{Slot}
-use Rattle.insn_forms.specs.declared.maps.TheConstants.{ONE_BYTE_MAP, TWO_BYTE_MAP}
+use Rattle.insn_forms.specs.{OpcodeMap.{group_0fba}, declared.rows.Slot.{Slot}, declared.maps.TheConstants.{ONE_BYTE_MAP, TWO_BYTE_MAP}}
 use Rattle.insn_forms.specs.Slots.{row_in, has_rows}
 
 -- f i, f (i + 1), .., n of them

@@ -1,27 +1,20 @@
 -- Every instruction that bytes encode is well formed.
 use Rattle.std.proofs.Common.{◌≡◌, ℕ, ◌/◌, ◌%◌, ◌<◌, Bool, true, false, ◌&&◌, ◌||◌, not, eqb, Option, Some, None, [], ◌∷◌, refl, sym, ap}
-use Rattle.std.proofs.Common.{subst, arith, inl, inr}
+use Rattle.std.proofs.{Common.{subst, arith, inl, inr}, lemmas.Bool.{cond_both, and_parts, and_from, or_left, lt-ltb, false≢true}}
+use Rattle.std.proofs.lemmas.Bool.{cases_Bool}
 use Rattle.std.specs.Prelude.{nat_lt, ◌==◌}
-use Rattle.std.proofs.lemmas.Bool.{cond_both, and_parts, and_from, or_left, lt-ltb, false≢true, cases_Bool}
 use Rattle.client_world.specs.declared.segments.SegReg.{SegReg}
-use Rattle.insn_forms.specs.declared.rows.Form.{Form}
-use Rattle.insn_forms.specs.declared.rows.Form.TheVariants as forms
-use Rattle.insn_forms.specs.declared.rows.Row.{Row}
-use Rattle.insn_forms.specs.declared.insn.Operand.TheVariants as operands
-use Rattle.insn_forms.specs.declared.insn.Insn.{Insn}
-use Rattle.insn_forms.specs.declared.insn.MemForm.{MemForm}
-use Rattle.insn_forms.specs.declared.pieces.Prefixes.{Prefixes}
-use Rattle.insn_forms.specs.declared.pieces.Head.{Head}
-use Rattle.insn_forms.specs.declared.pieces.Addressing.{Addressing}
+use Rattle.insn_forms.specs.{declared.rows.Form.{Form}, declared.rows.Row.{Row}, declared.insn.Insn.{Insn}, declared.insn.MemForm.{MemForm}}
+use Rattle.insn_forms.specs.{declared.pieces.Prefixes.{Prefixes}, declared.pieces.Head.{Head}, declared.pieces.Addressing.{Addressing}}
 use Rattle.insn_forms.specs.Addressing.{mod_of, reg_of, rm_of, in_memory, base16, index16, base32, index32, scale_of, place, displacement}
-use Rattle.insn_forms.specs.Addressing.{memory}
-use Rattle.insn_forms.specs.Operands.{has_op, may_lock, is_e, is_m, is_row, op_of, operand, register_or_memory, width_of, form_width}
-use Rattle.insn_forms.specs.Operands.{row_width, insn_of}
-use Rattle.insn_forms.specs.Grammar.{little_endian, head_of, addressing_of, row_with, is_row_with, wide_of, addr32_of, insn_of_pieces}
-use Rattle.insn_forms.specs.Grammar.{IsInsn}
-use Rattle.insn_forms.specs.Kinds.{Kind, operand_kind, is_memory, is_width, is_number, is_place_in_memory, is_good, suits, has_good_number}
-use Rattle.insn_forms.specs.Kinds.{is_wide_only, takes_lock, IsWellFormed}
+use Rattle.insn_forms.specs.{Addressing.{memory}, Operands.{has_op, may_lock, is_e, is_m, is_row, op_of, operand, register_or_memory}}
+use Rattle.insn_forms.specs.{Operands.{width_of, form_width, row_width, insn_of}, Grammar.{little_endian, head_of, addressing_of, row_with}}
+use Rattle.insn_forms.specs.{Grammar.{is_row_with, wide_of, addr32_of, insn_of_pieces, IsInsn}, Kinds.{Kind, operand_kind, is_memory}}
+use Rattle.insn_forms.specs.Kinds.{is_width, is_number, is_place_in_memory, is_good, suits, has_good_number, is_wide_only, takes_lock}
+use Rattle.insn_forms.specs.Kinds.{IsWellFormed}
 use Rattle.insn_forms.proofs.RowsSuit.{kinds, all_of, row_suits, every_row_suits}
+use Rattle.insn_forms.specs.declared.rows.Form.TheVariants as forms
+use Rattle.insn_forms.specs.declared.insn.Operand.TheVariants as operands
 
 -- ---- kinds
 

@@ -2,15 +2,11 @@
 -- Source: 80386 Programmer's Reference Manual, ch. 17, "ModR/M and SIB Bytes", tables 17-2 to 17-4.
 use Rattle.std.specs.Prelude.{ℕ, ◌+◌, ◌/◌, ◌%◌, Bool, true, false, not, Option, Some, None, nat_lt, ◌==◌, ◌&&◌, ◌||◌, if◌then◌else◌}
 use Rattle.client_world.specs.declared.segments.SegReg.{SegReg}
-use Rattle.client_world.specs.declared.segments.SegReg.TheVariants as segs
-use Rattle.insn_forms.specs.declared.rows.OpMap.{OpMap}
-use Rattle.insn_forms.specs.declared.rows.Form.{Form}
-use Rattle.insn_forms.specs.declared.rows.Form.TheVariants.{Eb, Ew, Ev, Gb, Gw, Gv, RvMw, Sw, M, ModRm}
-use Rattle.insn_forms.specs.declared.rows.Row.{Row}
-use Rattle.insn_forms.specs.declared.insn.MemForm.{MemForm}
-use Rattle.insn_forms.specs.declared.pieces.Prefixes.{Prefixes}
-use Rattle.insn_forms.specs.declared.pieces.Addressing.{Addressing}
+use Rattle.insn_forms.specs.{declared.rows.OpMap.{OpMap}, declared.rows.Form.{Form}, declared.rows.Form.TheVariants.{Eb, Ew, Ev, Gb, Gw}}
+use Rattle.insn_forms.specs.{declared.rows.Form.TheVariants.{Gv, RvMw, Sw, M, ModRm}, declared.rows.Row.{Row}}
+use Rattle.insn_forms.specs.{declared.insn.MemForm.{MemForm}, declared.pieces.Prefixes.{Prefixes}, declared.pieces.Addressing.{Addressing}}
 use Rattle.insn_forms.specs.OpcodeMap.{opcode_row}
+use Rattle.client_world.specs.declared.segments.SegReg.TheVariants as segs
 
 -- ---- the bytes
 

@@ -1,18 +1,11 @@
 -- The grammar: which bytes encode an instruction. An encoding is pieces, each of which has the size that the pieces before
 -- it determine, and the instruction is a function of the pieces.
 -- Source: 80386 Programmer's Reference Manual, ch. 17, "80386 Instruction Encoding".
-use Rattle.std.specs.Prelude.{◌≡◌, ℕ, ◌+◌, ◌*◌, ◌<◌, Bool, true, List, [], ◌∷◌, ◌++◌, length}
-use Rattle.std.specs.List.{AllByRecursion}
-use Rattle.insn_forms.specs.declared.rows.OpMap.{OpMap}
-use Rattle.insn_forms.specs.declared.rows.OpMap.TheVariants.{One, Two}
-use Rattle.insn_forms.specs.declared.rows.Row.{Row}
-use Rattle.insn_forms.specs.declared.insn.Insn.{Insn}
-use Rattle.insn_forms.specs.declared.pieces.Head.{Head}
-use Rattle.insn_forms.specs.declared.pieces.Addressing.{Addressing}
-use Rattle.insn_forms.specs.OpcodeMap.{opcode_row}
-use Rattle.insn_forms.specs.Prefixes.{is_prefix, prefixes_of, toggled}
-use Rattle.insn_forms.specs.Addressing.{reg_of, in_memory, modrm_size, sib_size, disp_size}
-use Rattle.insn_forms.specs.Operands.{is_row, imm_size, operand, insn_of}
+use Rattle.std.specs.{Prelude.{◌≡◌, ℕ, ◌+◌, ◌*◌, ◌<◌, Bool, true, List, [], ◌∷◌, ◌++◌, length}, List.{AllByRecursion}}
+use Rattle.insn_forms.specs.{declared.rows.OpMap.{OpMap}, declared.rows.OpMap.TheVariants.{One, Two}, declared.rows.Row.{Row}}
+use Rattle.insn_forms.specs.{declared.insn.Insn.{Insn}, declared.pieces.Head.{Head}, declared.pieces.Addressing.{Addressing}}
+use Rattle.insn_forms.specs.{OpcodeMap.{opcode_row}, Prefixes.{is_prefix, prefixes_of, toggled}, Addressing.{reg_of, in_memory, modrm_size}}
+use Rattle.insn_forms.specs.{Addressing.{sib_size, disp_size}, Operands.{is_row, imm_size, operand, insn_of}}
 
 -- ---- bytes
 

@@ -2,14 +2,11 @@
 -- executing crate may take for granted of an instruction that bytes encode.
 -- Source: 80386 Programmer's Reference Manual, ch. 17, the heading of each instruction; the crates are own.
 use Rattle.std.specs.Prelude.{ℕ, Bool, true, false, not, Option, Some, None, ◌==◌, ◌&&◌, ◌||◌, nat_lt, IsTrue}
-use Rattle.insn_forms.specs.declared.insn.Op.{Op}
-use Rattle.insn_forms.specs.declared.insn.Op.TheVariants as ops
-use Rattle.insn_forms.specs.declared.insn.Owner.{Owner}
-use Rattle.insn_forms.specs.declared.insn.Owner.TheVariants.{Core, Flow, ByFirst, ByOperands}
-use Rattle.insn_forms.specs.declared.insn.Operand.{Operand}
-use Rattle.insn_forms.specs.declared.insn.Operand.TheVariants as operands
-use Rattle.insn_forms.specs.declared.insn.MemForm.{MemForm}
+use Rattle.insn_forms.specs.{declared.insn.Op.{Op}, declared.insn.Owner.{Owner}, declared.insn.Owner.TheVariants.{Core, Flow, ByFirst}}
+use Rattle.insn_forms.specs.{declared.insn.Owner.TheVariants.{ByOperands}, declared.insn.Operand.{Operand}, declared.insn.MemForm.{MemForm}}
 use Rattle.insn_forms.specs.declared.insn.Insn.{Insn}
+use Rattle.insn_forms.specs.declared.insn.Op.TheVariants as ops
+use Rattle.insn_forms.specs.declared.insn.Operand.TheVariants as operands
 
 -- the kinds of operands
 pub data Kind : Type 0 where

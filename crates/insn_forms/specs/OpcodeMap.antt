@@ -1,14 +1,10 @@
 -- The two opcode maps. Source: 80386 Programmer's Reference Manual, appendix A.
 use Rattle.std.specs.Prelude.{ℕ, ◌+◌, ◌%◌, Some, None, nat_lt, nat_le, ◌==◌, ◌&&◌, if◌then◌else◌, suc, List, [], ◌∷◌}
-use Rattle.insn_forms.specs.declared.rows.OpMap.{OpMap}
-use Rattle.insn_forms.specs.declared.rows.OpMap.TheVariants.{One, Two}
-use Rattle.insn_forms.specs.declared.insn.Op.{Op}
+use Rattle.insn_forms.specs.{declared.rows.OpMap.{OpMap}, declared.rows.OpMap.TheVariants.{One, Two}, declared.insn.Op.{Op}}
+use Rattle.insn_forms.specs.{declared.rows.Form.{Form}, declared.rows.Form.TheVariants.{Empty, Eb, Ew, Ev, Gb, Gw, Gv, RvMw, Sw, M, Al, Ax}}
+use Rattle.insn_forms.specs.declared.rows.Form.TheVariants.{Cl, Dx, Const1, Ib, Iw, Iz, Is, Jb, Jz, Ip, Ob, Ov, Zb, Zv, Xb, Xv, SegEs}
+use Rattle.insn_forms.specs.{declared.rows.Form.TheVariants.{SegCs, SegSs, SegDs, SegFs, SegGs, ModRm}, declared.rows.Row.{Row}}
 use Rattle.insn_forms.specs.declared.insn.Op.TheVariants as ops
-use Rattle.insn_forms.specs.declared.rows.Form.{Form}
-use Rattle.insn_forms.specs.declared.rows.Form.TheVariants.{Empty, Eb, Ew, Ev, Gb, Gw, Gv, RvMw, Sw, M, Al, Ax, Cl, Dx, Const1, Ib, Iw, Iz}
-use Rattle.insn_forms.specs.declared.rows.Form.TheVariants.{Is, Jb, Jz, Ip, Ob, Ov, Zb, Zv, Xb, Xv, SegEs, SegCs, SegSs, SegDs, SegFs}
-use Rattle.insn_forms.specs.declared.rows.Form.TheVariants.{SegGs, ModRm}
-use Rattle.insn_forms.specs.declared.rows.Row.{Row}
 
 -- ---- rows and lines
 

@@ -1,24 +1,16 @@
 -- What the forms of a row denote, and the instruction that they make.
 -- Source: 80386 Programmer's Reference Manual, ch. 17 and appendix A.
 use Rattle.std.specs.Prelude.{ℕ, ◌/◌, ◌%◌, Bool, true, false, not, Some, None, ◌==◌, ◌&&◌, ◌||◌, if◌then◌else◌}
-use Rattle.client_world.specs.declared.segments.SegReg.{SegReg}
+use Rattle.client_world.specs.{declared.segments.SegReg.{SegReg}, declared.segments.FarPtr.{FarPtr}}
+use Rattle.insn_forms.specs.{declared.insn.Op.{Op}, declared.rows.Form.{Form}, declared.rows.Form.TheVariants.{Empty, Eb, Ew, Ev, Gb, Gw}}
+use Rattle.insn_forms.specs.declared.rows.Form.TheVariants.{Gv, RvMw, Sw, M, Al, Ax, Cl, Dx, Const1, Ib, Iw, Iz, Is, Jb, Jz, Ip, Ob, Ov, Zb}
+use Rattle.insn_forms.specs.declared.rows.Form.TheVariants.{Zv, Xb, Xv, SegEs, SegCs, SegSs, SegDs, SegFs, SegGs, ModRm}
+use Rattle.insn_forms.specs.{declared.rows.Row.{Row}, declared.insn.Operand.{Operand}, declared.insn.Insn.{Insn}}
+use Rattle.insn_forms.specs.{declared.pieces.Prefixes.{Prefixes}, declared.pieces.Head.{Head}, declared.pieces.Addressing.{Addressing}}
+use Rattle.insn_forms.specs.{Kinds.{takes_lock}, Addressing.{mod_of, reg_of, rm_of, sign_extended_byte, segment_or, place, memory}}
 use Rattle.client_world.specs.declared.segments.SegReg.TheVariants as segs
-use Rattle.client_world.specs.declared.segments.FarPtr.{FarPtr}
-use Rattle.insn_forms.specs.declared.insn.Op.{Op}
 use Rattle.insn_forms.specs.declared.insn.Op.TheVariants as ops
-use Rattle.insn_forms.specs.declared.rows.Form.{Form}
-use Rattle.insn_forms.specs.declared.rows.Form.TheVariants.{Empty, Eb, Ew, Ev, Gb, Gw, Gv, RvMw, Sw, M, Al, Ax, Cl, Dx, Const1, Ib, Iw, Iz}
-use Rattle.insn_forms.specs.declared.rows.Form.TheVariants.{Is, Jb, Jz, Ip, Ob, Ov, Zb, Zv, Xb, Xv, SegEs, SegCs, SegSs, SegDs, SegFs}
-use Rattle.insn_forms.specs.declared.rows.Form.TheVariants.{SegGs, ModRm}
-use Rattle.insn_forms.specs.declared.rows.Row.{Row}
-use Rattle.insn_forms.specs.declared.insn.Operand.{Operand}
 use Rattle.insn_forms.specs.declared.insn.Operand.TheVariants as operands
-use Rattle.insn_forms.specs.declared.insn.Insn.{Insn}
-use Rattle.insn_forms.specs.declared.pieces.Prefixes.{Prefixes}
-use Rattle.insn_forms.specs.declared.pieces.Head.{Head}
-use Rattle.insn_forms.specs.declared.pieces.Addressing.{Addressing}
-use Rattle.insn_forms.specs.Kinds.{takes_lock}
-use Rattle.insn_forms.specs.Addressing.{mod_of, reg_of, rm_of, sign_extended_byte, segment_or, place, memory}
 
 -- ---- which rows there are
 

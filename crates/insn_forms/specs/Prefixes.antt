@@ -2,10 +2,9 @@
 -- Source: 80386 Programmer's Reference Manual, ch. 17, "Instruction Prefixes".
 use Rattle.std.specs.Prelude.{ℕ, Bool, false, Option, Some, None, List, [], ◌∷◌, ◌==◌, ◌||◌, not, if◌then◌else◌}
 use Rattle.client_world.specs.declared.segments.SegReg.{SegReg}
+use Rattle.insn_forms.specs.{declared.insn.Rep.{Rep}, declared.pieces.Prefixes.{Prefixes}}
 use Rattle.client_world.specs.declared.segments.SegReg.TheVariants as segs
-use Rattle.insn_forms.specs.declared.insn.Rep.{Rep}
 use Rattle.insn_forms.specs.declared.insn.Rep.TheVariants as reps
-use Rattle.insn_forms.specs.declared.pieces.Prefixes.{Prefixes}
 
 -- the segment register of a segment prefix
 abbrev pub segment_of : ℕ → Option SegReg

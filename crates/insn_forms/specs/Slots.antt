@@ -1,10 +1,7 @@
 -- The rows that an entry of a static table covers (own).
 use Rattle.std.specs.Prelude.{ℕ, Bool, true, nat_lt, [], slice_index_or}
-use Rattle.insn_forms.specs.declared.rows.Row.{Row}
-use Rattle.insn_forms.specs.declared.rows.Slot.{Slot}
-use Rattle.insn_forms.specs.declared.rows.Slot.TheVariants.{Alone, Group}
-use Rattle.insn_forms.specs.declared.maps.TheConstants.{GROUPS}
-use Rattle.insn_forms.specs.OpcodeMap.{pick}
+use Rattle.insn_forms.specs.{declared.rows.Row.{Row}, declared.rows.Slot.{Slot}, declared.rows.Slot.TheVariants.{Alone, Group}}
+use Rattle.insn_forms.specs.{declared.maps.TheConstants.{GROUPS}, OpcodeMap.{pick}}
 
 -- the row of an entry and a reg field
 abbrev pub row_in : Slot → ℕ → Row

@@ -1,7 +1,6 @@
 // The opcode maps looked up.
 ghost use Rattle.std.specs.Prelude.{◌≡◌, IsTrue};
-ghost use Rattle.insn_forms.specs.OpcodeMap.{opcode_row, pick};
-ghost use Rattle.insn_forms.specs.Slots.{row_in, has_rows};
+ghost use Rattle.insn_forms.specs.{OpcodeMap.{opcode_row, pick}, Slots.{row_in, has_rows}};
 
 use crate::maps::{GROUPS, ONE_BYTE_MAP, TWO_BYTE_MAP};
 use crate::rows::{Form, OpMap, Row, Slot};

@@ -1,16 +1,10 @@
 -- The accesses of what an instruction puts and pushes: the numbers have no part in them.
 use Rattle.std.proofs.Common.{◌≡◌, ℕ, Bool, true, List, [], ◌∷◌, ◌++◌, refl}
-use Rattle.client_world.specs.declared.registers.Regs.{Regs}
-use Rattle.client_world.specs.World.{World}
-use Rattle.guest_space.specs.declared.pending.Write.{Write}
-use Rattle.guest_space.specs.Pending.{byte_count}
-use Rattle.insn_forms.specs.declared.insn.Operand.{Operand}
-use Rattle.insn_forms.specs.declared.insn.Operand.TheVariants.{Empty, Reg, Seg, Mem, Imm, Far}
-use Rattle.insn_plan.specs.declared.accesses.Access.{Access}
-use Rattle.insn_plan.specs.Accesses.{and_writes, and_put, and_push, esp_down}
-use Rattle.insn_plan.specs.Act.{Pending}
-use Rattle.insn_plan.specs.Operands.{put_operand}
-use Rattle.insn_plan.specs.Stack.{with_pushed_number}
+use Rattle.client_world.specs.{declared.registers.Regs.{Regs}, World.{World}}
+use Rattle.guest_space.specs.{declared.pending.Write.{Write}, Pending.{byte_count}}
+use Rattle.insn_forms.specs.{declared.insn.Operand.{Operand}, declared.insn.Operand.TheVariants.{Empty, Reg, Seg, Mem, Imm, Far}}
+use Rattle.insn_plan.specs.{declared.accesses.Access.{Access}, Accesses.{and_writes, and_put, and_push, esp_down}, Act.{Pending}}
+use Rattle.insn_plan.specs.{Operands.{put_operand}, Stack.{with_pushed_number}}
 
 -- the access of a write
 abbrev access_of : Write → Access

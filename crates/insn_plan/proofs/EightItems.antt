@@ -1,15 +1,10 @@
 -- An item of the stack that is read in a run below the offset 10000h.
 use Rattle.std.proofs.Common.{◌≡◌, ℕ, suc, zero, ◌+◌, ◌*◌, ◌<◌, ◌≤◌, Bool, true, false, List, [], ◌∷◌, slice_index, slice_index_or, ap, ◌∙◌}
-use Rattle.std.proofs.Common.{sym, arith, Ok}
-use Rattle.std.proofs.Math.Nat.{mul-lt-mul_of_pos_left}
-use Rattle.client_world.specs.declared.segments.SegReg.TheVariants.{Ss}
-use Rattle.client_world.specs.World.{World}
-use Rattle.guest_space.specs.Pending.{byte_count}
-use Rattle.guest_space.specs.Transfer.{read_result}
+use Rattle.std.proofs.{Common.{sym, arith, Ok}, Math.Nat.{mul-lt-mul_of_pos_left}}
+use Rattle.client_world.specs.{declared.segments.SegReg.TheVariants.{Ss}, World.{World}}
+use Rattle.guest_space.specs.{Pending.{byte_count}, Transfer.{read_result}}
 use Rattle.insn_forms.specs.Grammar.{little_endian}
-use Rattle.insn_plan.specs.Act.{number_read, value_of}
-use Rattle.insn_plan.specs.Registers.{cut_address}
-use Rattle.insn_plan.specs.Stack.{has_big_stack, stack_item}
+use Rattle.insn_plan.specs.{Act.{number_read, value_of}, Registers.{cut_address}, Stack.{has_big_stack, stack_item}}
 
 -- the stack pointer doesn't wrap there
 place_in_run : (big : Bool) (esp n k sp : ℕ) → sp ≡ cut_address big esp → sp + n ≤ 0x10000 → k < n →

@@ -1,28 +1,16 @@
 -- EIP has no part in what an instruction reads, in the address of an operand, or in the fault of an access.
 use Rattle.std.proofs.Common.{◌≡◌, ℕ, Bool, false, List, [], ◌∷◌, Ok, Err, None, Some, refl, ap, ◌∙◌}
-use Rattle.std.specs.declared.option.Option.{Option}
-use Rattle.std.specs.declared.result.Result.{Result}
-use Rattle.client_world.specs.declared.faults.Fault.{Fault}
-use Rattle.client_world.specs.declared.place.Place.{Place}
-use Rattle.client_world.specs.declared.place.Place.TheVariants.{Dos, Block, Host, Nothing}
-use Rattle.client_world.specs.declared.registers.Mode.{Mode}
-use Rattle.client_world.specs.declared.registers.Mode.TheVariants.{Real, Protected}
-use Rattle.client_world.specs.declared.segments.SegReg.{SegReg}
-use Rattle.client_world.specs.declared.segments.SegReg.TheVariants.{Es, Cs, Ss, Ds, Fs, Gs}
-use Rattle.client_world.specs.Access.{access, segment_base, real_base, protected_base, places_at, byte_of, bytes_of}
-use Rattle.client_world.specs.General.{general}
-use Rattle.client_world.specs.Segments.{selector}
-use Rattle.client_world.specs.World.{World}
-use Rattle.guest_space.specs.Pending.{byte_count}
-use Rattle.guest_space.specs.Transfer.{read_result, bytes_at, access_fault, fault_of}
-use Rattle.insn_forms.specs.declared.insn.MemForm.{MemForm}
-use Rattle.insn_forms.specs.declared.insn.Operand.{Operand}
-use Rattle.insn_forms.specs.declared.insn.Operand.TheVariants.{Empty, Reg, Seg, Mem, Imm, Far}
-use Rattle.insn_plan.specs.Accesses.{with_next_eip}
-use Rattle.insn_plan.specs.Act.{Input, Given, From, value_of, number_read}
-use Rattle.insn_plan.specs.Operands.{source}
+use Rattle.std.specs.{declared.option.Option.{Option}, declared.result.Result.{Result}}
+use Rattle.client_world.specs.{declared.faults.Fault.{Fault}, declared.place.Place.{Place}, declared.place.Place.TheVariants.{Dos, Block}}
+use Rattle.client_world.specs.{declared.place.Place.TheVariants.{Host, Nothing}, declared.registers.Mode.{Mode}}
+use Rattle.client_world.specs.{declared.registers.Mode.TheVariants.{Real, Protected}, declared.segments.SegReg.{SegReg}}
+use Rattle.client_world.specs.{declared.segments.SegReg.TheVariants.{Es, Cs, Ss, Ds, Fs, Gs}, Access.{access, segment_base, real_base}}
+use Rattle.client_world.specs.{Access.{protected_base, places_at, byte_of, bytes_of}, General.{general}, Segments.{selector}, World.{World}}
+use Rattle.guest_space.specs.{Pending.{byte_count}, Transfer.{read_result, bytes_at, access_fault, fault_of}}
+use Rattle.insn_forms.specs.{declared.insn.MemForm.{MemForm}, declared.insn.Operand.{Operand}, declared.insn.Operand.TheVariants.{Empty}}
+use Rattle.insn_forms.specs.declared.insn.Operand.TheVariants.{Reg, Seg, Mem, Imm, Far}
+use Rattle.insn_plan.specs.{Accesses.{with_next_eip}, Act.{Input, Given, From, value_of, number_read}, Operands.{source}}
 use Rattle.insn_plan.specs.Registers.{register, offset_of, address_part}
-use Rattle.insn_plan.specs.Stack.{has_big_stack, stack_item}
 
 pub selector_moved : (len : ℕ) (w : World) (seg : SegReg) → selector (with_next_eip len w).regs seg ≡ selector w.regs seg
 selector_moved len w Es = refl
@@ -96,7 +84,3 @@ source_moved len w addr32 width (Seg seg) = ap (λ (s : ℕ). Given s) (selector
 source_moved len w addr32 width (Mem f) = ap (λ (off : ℕ). From f.seg off (byte_count width)) (offset_moved len w addr32 f)
 source_moved len w addr32 width (Imm v) = refl
 source_moved len w addr32 width (Far pointer) = refl
-
-pub item_moved : (len : ℕ) (w : World) (width place : ℕ) → stack_item (with_next_eip len w) width place ≡ stack_item w width place
-unfolding stack_item has_big_stack
-item_moved len w width place = refl

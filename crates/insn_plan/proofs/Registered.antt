@@ -1,15 +1,10 @@
 -- A number that is put into a register, with no write.
 use Rattle.std.proofs.Common.{◌≡◌, ℕ, Bool, Ok, refl}
-use Rattle.client_world.specs.declared.registers.Flags.{Flags}
-use Rattle.client_world.specs.declared.registers.Regs.{Regs}
-use Rattle.guest_space.specs.Registers.{with_registers}
-use Rattle.guest_space.specs.Pending.{first_write_fault, after_writes}
+use Rattle.client_world.specs.{declared.registers.Flags.{Flags}, declared.registers.Regs.{Regs}}
+use Rattle.guest_space.specs.{Registers.{with_registers}, Pending.{first_write_fault, after_writes}}
 use Rattle.host_memory.specs.View.{MachineView}
 use Rattle.insn_forms.specs.declared.insn.Operand.TheVariants.{Reg}
-use Rattle.insn_plan.specs.Act.{unchanged, with_flags}
-use Rattle.insn_plan.specs.Operands.{put_operand}
-use Rattle.insn_plan.specs.Plan.{after_commit}
-use Rattle.insn_plan.specs.Registers.{with_register}
+use Rattle.insn_plan.specs.{Act.{unchanged, with_flags}, Operands.{put_operand}, Plan.{after_commit}, Registers.{with_register}}
 
 pub put_with_flags_in_register : (v : MachineView) (f : Flags) (r : Regs) (addr32 : Bool) (width own number x : ℕ) →
     after_commit v (put_operand r addr32 width (Reg own number) x (with_flags f v.world))

@@ -1,20 +1,12 @@
 -- What carrying a plan out comes to.
 use Rattle.std.proofs.Common.{◌≡◌, ℕ, Bool, List, Ok, Err, None, Some, refl, ap, sym, ◌∙◌}
-use Rattle.std.specs.declared.option.Option.{Option}
-use Rattle.std.specs.declared.result.Result.{Result}
-use Rattle.client_world.specs.declared.faults.Event.{Event}
-use Rattle.client_world.specs.declared.faults.Event.TheVariants.{Fault as fault}
-use Rattle.client_world.specs.declared.faults.Fault.{Fault}
-use Rattle.client_world.specs.declared.general.TheConstants.{ESP}
-use Rattle.client_world.specs.declared.registers.Regs.{Regs}
+use Rattle.std.specs.{declared.option.Option.{Option}, declared.result.Result.{Result}}
+use Rattle.client_world.specs.{declared.faults.Event.{Event}, declared.faults.Event.TheVariants.{Fault as fault}}
+use Rattle.client_world.specs.{declared.faults.Fault.{Fault}, declared.general.TheConstants.{ESP}, declared.registers.Regs.{Regs}}
 use Rattle.client_world.specs.General.{with_general}
-use Rattle.guest_space.specs.declared.pending.Write.{Write}
-use Rattle.guest_space.specs.Pending.{first_write_fault, after_writes}
-use Rattle.guest_space.specs.Registers.{with_registers}
+use Rattle.guest_space.specs.{declared.pending.Write.{Write}, Pending.{first_write_fault, after_writes}, Registers.{with_registers}}
 use Rattle.host_memory.specs.View.{MachineView}
-use Rattle.insn_plan.specs.Act.{Pending, with_regs}
-use Rattle.insn_plan.specs.Plan.{after_plan, after_commit, with_state}
-use Rattle.insn_plan.specs.Stack.{pending_of_pushes}
+use Rattle.insn_plan.specs.{Act.{Pending, with_regs}, Plan.{after_plan, after_commit, with_state}, Stack.{pending_of_pushes}}
 use Rattle.insn_plan.proofs.WrittenState.{all_state}
 
 -- it is what its plan leaves

@@ -1,11 +1,8 @@
 -- The item at the top of the stack is where the stack pointer points.
 use Rattle.std.proofs.Common.{◌≡◌, ℕ, ◌+◌, ◌*◌, Bool, true, false, ap, arith}
-use Rattle.client_world.specs.declared.segments.SegReg.TheVariants.{Ss}
-use Rattle.client_world.specs.World.{World}
+use Rattle.client_world.specs.{declared.segments.SegReg.TheVariants.{Ss}, World.{World}}
 use Rattle.guest_space.specs.Pending.{byte_count}
-use Rattle.insn_plan.specs.Act.{From}
-use Rattle.insn_plan.specs.Registers.{cut_address}
-use Rattle.insn_plan.specs.Stack.{has_big_stack, stack_item, stack_pointer}
+use Rattle.insn_plan.specs.{Act.{From}, Registers.{cut_address}, Stack.{has_big_stack, stack_item, stack_pointer}}
 
 -- a stack pointer that goes no bytes up stays
 same_pointer : (big : Bool) (esp n : ℕ) → n ≡ 0 → cut_address big (cut_address big esp + n) ≡ cut_address big esp

@@ -1,11 +1,9 @@
 -- Touches of a list of accesses, one after another.
 use Rattle.std.proofs.Common.{◌≡◌, ℕ, suc, ◌+◌, ◌<◌, ◌≤◌, List, [], ◌∷◌, ◌++◌, None, Some, refl, ap, ◌∙◌, drop, drop-cons, length, arith}
-use Rattle.std.specs.Prelude.{slice_index_or}
 use Rattle.std.proofs.lemmas.List.{drop_all}
-use Rattle.client_world.specs.World.{World}
-use Rattle.insn_plan.specs.declared.accesses.Access.{Access}
-use Rattle.client_world.specs.declared.watchpoints.Touch.{Touch}
-use Rattle.insn_plan.specs.Accesses.{touch_of_access, touches_after}
+use Rattle.std.specs.Prelude.{slice_index_or}
+use Rattle.client_world.specs.{World.{World}, declared.watchpoints.Touch.{Touch}}
+use Rattle.insn_plan.specs.{declared.accesses.Access.{Access}, Accesses.{touch_of_access, touches_after}}
 
 touches_none : (w : World) (done : List Touch) (a : Access) (rest : List Access) → touch_of_access w a ≡ None →
     touches_after w done (a ∷ rest) ≡ None

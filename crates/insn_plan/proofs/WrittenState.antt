@@ -1,19 +1,14 @@
 -- Writes leave the registers and the virtual interrupt flag.
 use Rattle.std.proofs.Common.{◌≡◌, ℕ, true, List, [], ◌∷◌, Err, None, Some, refl, ap, ◌∙◌}
 use Rattle.std.specs.declared.result.Result.{Result}
-use Rattle.client_world.specs.declared.faults.Event.{Event}
-use Rattle.client_world.specs.declared.faults.Event.TheVariants.{Fault as fault}
-use Rattle.client_world.specs.declared.faults.Fault.{Fault}
-use Rattle.client_world.specs.declared.place.Place.{Place}
-use Rattle.client_world.specs.declared.place.Place.TheVariants.{Dos, Block, Host, Nothing}
-use Rattle.client_world.specs.Access.{access, with_byte_of, with_bytes_of}
+use Rattle.client_world.specs.{declared.faults.Event.{Event}, declared.faults.Event.TheVariants.{Fault as fault}}
+use Rattle.client_world.specs.{declared.faults.Fault.{Fault}, declared.place.Place.{Place}, declared.place.Place.TheVariants.{Dos, Block}}
+use Rattle.client_world.specs.{declared.place.Place.TheVariants.{Host, Nothing}, Access.{access, with_byte_of, with_bytes_of}}
 use Rattle.client_world.specs.World.{World}
-use Rattle.guest_space.specs.declared.pending.Write.{Write}
-use Rattle.guest_space.specs.Pending.{write_fault, after_write, first_write_fault, after_writes, byte_count, number_bytes}
-use Rattle.guest_space.specs.Transfer.{after_store, with_places, places_of_access}
+use Rattle.guest_space.specs.{declared.pending.Write.{Write}, Pending.{write_fault, after_write, first_write_fault, after_writes}}
+use Rattle.guest_space.specs.{Pending.{byte_count, number_bytes}, Transfer.{after_store, with_places, places_of_access}}
 use Rattle.host_memory.specs.View.{MachineView}
-use Rattle.insn_plan.specs.Looks.{Reports}
-use Rattle.insn_plan.specs.Written.{IsRefused, IsWritten}
+use Rattle.insn_plan.specs.{Looks.{Reports}, Written.{IsRefused, IsWritten}}
 
 -- the same registers and flag
 pub record SameState (v w : World) : Type 0 where

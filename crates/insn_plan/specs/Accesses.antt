@@ -1,25 +1,13 @@
 -- What an instruction accesses: the bytes that it reads, one access after another, and then those that it writes. And the same bytes as
 -- runs of linear addresses, which watchpoints are compared with. Source: own.
 use Rattle.std.specs.Prelude.{◌≡◌, MatchResult, ℕ, ◌+◌, ◌-◌, ◌%◌, ◌<◌, ◌^◌, Bool, true, false, List, [], ◌∷◌, ◌++◌, Ok, Err, None, Some}
-use Rattle.std.specs.declared.option.Option.{Option}
-use Rattle.std.specs.declared.result.Result.{Result}
-use Rattle.client_world.specs.declared.faults.Event.{Event}
-use Rattle.client_world.specs.declared.registers.Regs.{Regs}
-use Rattle.client_world.specs.declared.segments.SegReg.TheVariants.{Ss}
-use Rattle.client_world.specs.Access.{linear}
-use Rattle.client_world.specs.Segments.{selector}
-use Rattle.client_world.specs.World.{World}
-use Rattle.guest_space.specs.declared.pending.Write.{Write}
-use Rattle.guest_space.specs.Pending.{byte_count}
-use Rattle.guest_space.specs.SegmentRows.{first_byte}
-use Rattle.guest_space.specs.Transfer.{access_fault}
-use Rattle.insn_forms.specs.declared.insn.Operand.{Operand}
-use Rattle.insn_forms.specs.declared.insn.Operand.TheVariants.{Mem}
-use Rattle.insn_plan.specs.declared.accesses.Access.{Access}
-use Rattle.client_world.specs.declared.watchpoints.Touch.{Touch}
-use Rattle.insn_plan.specs.Act.{Act, End, Read, Done, Raise, Interrupt, Input, Given, From, value_of}
-use Rattle.insn_plan.specs.Registers.{offset_of, cut_address, with_address}
-use Rattle.insn_plan.specs.Stack.{has_big_stack}
+use Rattle.std.specs.{declared.option.Option.{Option}, declared.result.Result.{Result}}
+use Rattle.client_world.specs.{declared.faults.Event.{Event}, declared.registers.Regs.{Regs}, declared.segments.SegReg.TheVariants.{Ss}}
+use Rattle.client_world.specs.{Access.{linear}, Segments.{selector}, World.{World}, declared.watchpoints.Touch.{Touch}}
+use Rattle.guest_space.specs.{declared.pending.Write.{Write}, Pending.{byte_count}, SegmentRows.{first_byte}, Transfer.{access_fault}}
+use Rattle.insn_forms.specs.{declared.insn.Operand.{Operand}, declared.insn.Operand.TheVariants.{Mem}}
+use Rattle.insn_plan.specs.{declared.accesses.Access.{Access}, Act.{Act, End, Read, Done, Raise, Interrupt, Input, Given, From, value_of}}
+use Rattle.insn_plan.specs.{Registers.{offset_of, cut_address, with_address}, Stack.{has_big_stack}}
 
 -- the world with EIP past an instruction of `len` bytes
 abbrev pub with_next_eip : ℕ → World → World

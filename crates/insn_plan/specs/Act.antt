@@ -1,16 +1,10 @@
 -- An instruction as data: what it reads, one after another, and then one outcome of the values that it read. A row of the instruction
 -- table is written in `do` notation: `v ← input` reads, and the last line says how the instruction ends. Source: own.
-use Rattle.std.specs.Prelude.{◌≡◌, ◌⊎◌, ℕ, Bool, List, [], Ok, Err, Option, None, Some}
-use Rattle.std.specs.declared.result.Result.{Result}
-use Rattle.client_world.specs.declared.registers.Flags.{Flags}
-use Rattle.client_world.specs.declared.registers.Regs.{Regs}
-use Rattle.client_world.specs.declared.segments.SegReg.{SegReg}
-use Rattle.client_world.specs.declared.faults.Fault.{Fault}
-use Rattle.client_world.specs.declared.faults.Event.{Event}
-use Rattle.client_world.specs.declared.faults.Event.TheVariants.{Fault as fault}
-use Rattle.client_world.specs.World.{World}
-use Rattle.guest_space.specs.declared.pending.Write.{Write}
-use Rattle.guest_space.specs.Transfer.{read_result}
+use Rattle.std.specs.{Prelude.{◌≡◌, ◌⊎◌, ℕ, Bool, List, [], Ok, Err, Option, None, Some}, declared.result.Result.{Result}}
+use Rattle.client_world.specs.{declared.registers.Flags.{Flags}, declared.registers.Regs.{Regs}, declared.segments.SegReg.{SegReg}}
+use Rattle.client_world.specs.{declared.faults.Fault.{Fault}, declared.faults.Event.{Event}}
+use Rattle.client_world.specs.{declared.faults.Event.TheVariants.{Fault as fault}, World.{World}}
+use Rattle.guest_space.specs.{declared.pending.Write.{Write}, Transfer.{read_result}}
 use Rattle.insn_forms.specs.Grammar.{little_endian}
 
 -- what an instruction reads: a number that is known, or the number of n bytes at an offset of a segment register

@@ -1,16 +1,11 @@
 -- The contracts of looks at memory, in whichever way (`Look`). A look that misses reports the fault of the access, or nothing. Source: own.
-use Rattle.std.specs.Prelude.{◌≡◌, ℕ, [], ◌∷◌, Ok, Err, None, Some, MatchResult}
-use Rattle.std.specs.declared.option.Option.{Option}
+use Rattle.std.specs.{Prelude.{◌≡◌, ℕ, [], ◌∷◌, Ok, Err, None, Some, MatchResult}, declared.option.Option.{Option}}
 use Rattle.std.specs.declared.result.Result.{Result}
-use Rattle.client_world.specs.declared.faults.Event.{Event}
-use Rattle.client_world.specs.declared.faults.Event.TheVariants.{Fault as fault}
+use Rattle.client_world.specs.{declared.faults.Event.{Event}, declared.faults.Event.TheVariants.{Fault as fault}}
 use Rattle.client_world.specs.declared.faults.Fault.{Fault}
-use Rattle.guest_space.specs.declared.pending.Write.{Write}
-use Rattle.guest_space.specs.Pending.{first_write_fault}
+use Rattle.guest_space.specs.{declared.pending.Write.{Write}, Pending.{first_write_fault}}
 use Rattle.host_memory.specs.View.{MachineView}
-use Rattle.insn_plan.specs.Act.{Act}
-use Rattle.insn_plan.specs.Plan.{after_plan, plan_result}
-use Rattle.insn_plan.specs.Written.{IsWritten}
+use Rattle.insn_plan.specs.{Act.{Act}, Plan.{after_plan, plan_result}, Written.{IsWritten}}
 
 -- where a fault is reported, it is the event of the outcome
 abbrev pub Reports : {A : Type 0} → Option Fault → Result A Event → Type 0

@@ -1,14 +1,10 @@
 -- What an operand reads, and how a number is put where an operand names. Both are total: an operand that can't be read is 0, and what is
 -- put into an immediate is dropped. Source: 80386 Programmer's Reference Manual, ch. 17, "Operation".
 use Rattle.std.specs.Prelude.{ℕ, Bool, [], ◌∷◌, ◌++◌}
-use Rattle.client_world.specs.declared.registers.Regs.{Regs}
-use Rattle.client_world.specs.declared.segments.SegReg.{SegReg}
-use Rattle.client_world.specs.Segments.{selector}
+use Rattle.client_world.specs.{declared.registers.Regs.{Regs}, declared.segments.SegReg.{SegReg}, Segments.{selector}}
 use Rattle.guest_space.specs.Pending.{byte_count}
-use Rattle.insn_forms.specs.declared.insn.Operand.{Operand}
-use Rattle.insn_forms.specs.declared.insn.Operand.TheVariants.{Reg, Seg, Mem, Imm}
-use Rattle.insn_plan.specs.Act.{Input, Given, From, Pending}
-use Rattle.insn_plan.specs.Registers.{register, with_register, offset_of}
+use Rattle.insn_forms.specs.{declared.insn.Operand.{Operand}, declared.insn.Operand.TheVariants.{Reg, Seg, Mem, Imm}}
+use Rattle.insn_plan.specs.{Act.{Input, Given, From, Pending}, Registers.{register, with_register, offset_of}}
 
 -- what an operand reads, in memory at that width
 unfoldable pub source : Regs → Bool → ℕ → Operand → Input

@@ -1,11 +1,8 @@
 -- The plan of an instruction: what it leaves, before anything is written; and what carrying it out makes of the machine.
 -- Source: own; that an instruction that faults changes nothing is own.
-use Rattle.std.specs.Prelude.{◌≡◌, Bool, Ok, Err, Some, None, MatchResult}
-use Rattle.std.specs.declared.result.Result.{Result}
-use Rattle.client_world.specs.declared.registers.Regs.{Regs}
-use Rattle.client_world.specs.declared.faults.Event.{Event}
-use Rattle.client_world.specs.declared.faults.Event.TheVariants.{Fault as fault, Soft}
-use Rattle.client_world.specs.World.{World}
+use Rattle.std.specs.{Prelude.{◌≡◌, Bool, Ok, Err, Some, None, MatchResult}, declared.result.Result.{Result}}
+use Rattle.client_world.specs.{declared.registers.Regs.{Regs}, declared.faults.Event.{Event}}
+use Rattle.client_world.specs.{declared.faults.Event.TheVariants.{Fault as fault, Soft}, World.{World}}
 use Rattle.host_memory.specs.View.{MachineView}
 use Rattle.guest_space.specs.Pending.{first_write_fault, after_writes}
 use Rattle.insn_plan.specs.Act.{Act, End, Read, Done, Raise, Interrupt, Pending, value_of}

@@ -1,7 +1,6 @@
 -- An event in one word. Source: own.
 use Rattle.std.specs.Prelude.{ℕ, nat_eq, if◌then◌else◌, ◌%◌, ◌/◌}
-use Rattle.client_world.specs.declared.faults.Event.{Event}
-use Rattle.client_world.specs.declared.faults.Event.TheVariants.{Fault as fault, Soft}
+use Rattle.client_world.specs.{declared.faults.Event.{Event}, declared.faults.Event.TheVariants.{Fault as fault, Soft}}
 
 -- bit 0 tells a software interrupt from an exception; the number lies from bit 1 on, the length of the interrupt's instruction from bit 9
 -- on, and the exception's error code from bit 17 on

@@ -2,9 +2,8 @@
 -- Source: 80386 Programmer's Reference Manual, ch. 2, "General Registers" and "Effective-Address Computation", and ch. 17, "ModR/M and SIB
 -- Bytes".
 use Rattle.std.specs.Prelude.{ℕ, ◌+◌, ◌-◌, ◌*◌, ◌%◌, ◌^◌, nat_eq, nat_lt, Bool, if◌then◌else◌, Option, None, Some}
-use Rattle.client_world.specs.declared.registers.Regs.{Regs}
-use Rattle.client_world.specs.General.{general, with_general}
-use Rattle.client_world.specs.Registers.{low_byte, high_byte, low_half, with_low_byte, with_high_byte, with_low_half}
+use Rattle.client_world.specs.{declared.registers.Regs.{Regs}, General.{general, with_general}, Registers.{low_byte, high_byte, low_half}}
+use Rattle.client_world.specs.Registers.{with_low_byte, with_high_byte, with_low_half}
 use Rattle.insn_forms.specs.declared.insn.MemForm.{MemForm}
 
 -- the register of a number at a width of 8, 16 or 32 bits. At 8 bits 0 to 3 are AL CL DL BL, and 4 to 7 AH CH DH BH

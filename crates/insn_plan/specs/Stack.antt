@@ -1,15 +1,9 @@
 -- The stack: the stack pointer is ESP where the segment in SS has B = 1, else SP; the other half stays.
 -- Source: 80386 Programmer's Reference Manual, ch. 2, "Stack Implementation", and ch. 17, PUSH and POP.
 use Rattle.std.specs.Prelude.{ℕ, ◌+◌, ◌-◌, ◌*◌, ◌^◌, Bool, List, [], ◌∷◌, ◌++◌}
-use Rattle.client_world.specs.declared.registers.Regs.{Regs}
-use Rattle.client_world.specs.declared.segments.SegReg.TheVariants.{Ss}
-use Rattle.client_world.specs.World.{World}
-use Rattle.guest_space.specs.declared.pending.Write.{Write}
-use Rattle.guest_space.specs.Pending.{byte_count}
-use Rattle.guest_space.specs.SegmentRows.{is_big}
-use Rattle.insn_plan.specs.Act.{Input, From, Pending, with_regs}
-use Rattle.insn_plan.specs.Operands.{and_write}
-use Rattle.insn_plan.specs.Registers.{cut_address, with_address}
+use Rattle.client_world.specs.{declared.registers.Regs.{Regs}, declared.segments.SegReg.TheVariants.{Ss}, World.{World}}
+use Rattle.guest_space.specs.{declared.pending.Write.{Write}, Pending.{byte_count}, SegmentRows.{is_big}}
+use Rattle.insn_plan.specs.{Act.{Input, From, Pending, with_regs}, Operands.{and_write}, Registers.{cut_address, with_address}}
 
 -- the stack pointer is ESP
 unfoldable pub has_big_stack : World → Bool

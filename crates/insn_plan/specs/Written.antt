@@ -1,10 +1,8 @@
 -- One write, made or refused. Source: own.
 use Rattle.std.specs.Prelude.{◌≡◌, [], ◌∷◌, None, Some}
-use Rattle.client_world.specs.declared.faults.Event.{Event}
-use Rattle.client_world.specs.declared.faults.Event.TheVariants.{Fault as fault}
+use Rattle.client_world.specs.{declared.faults.Event.{Event}, declared.faults.Event.TheVariants.{Fault as fault}}
 use Rattle.client_world.specs.declared.faults.Fault.{Fault}
-use Rattle.guest_space.specs.declared.pending.Write.{Write}
-use Rattle.guest_space.specs.Pending.{first_write_fault, after_writes}
+use Rattle.guest_space.specs.{declared.pending.Write.{Write}, Pending.{first_write_fault, after_writes}}
 use Rattle.host_memory.specs.View.{MachineView}
 
 -- it is made, and the registers and the virtual interrupt flag are as before

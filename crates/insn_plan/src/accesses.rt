@@ -3,9 +3,7 @@ ghost use Rattle.std.specs.Prelude.{◌≡◌, ◌+◌, ◌<◌, ◌≤◌, ◌+
 ghost use Rattle.client_world.specs.declared.segments.SegReg.TheVariants.{Ss};
 ghost use Rattle.guest_space.specs.Pending.{byte_count, IsCountOfWidth};
 ghost use Rattle.insn_plan.specs.Accesses.{and_read, and_put, and_push, esp_down, with_next_eip, touch_of_access, touches_after, HasBytes};
-ghost use Rattle.insn_plan.specs.Act.{From, IsCount, value_of};
-ghost use Rattle.insn_plan.specs.Operands.{source};
-ghost use Rattle.insn_plan.specs.Stack.{stack_item, has_big_stack};
+ghost use Rattle.insn_plan.specs.{Act.{From, IsCount, value_of}, Operands.{source}, Stack.{stack_item, has_big_stack}};
 
 use crate::operands::given;
 use crate::raised::Raised;

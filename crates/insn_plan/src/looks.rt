@@ -1,20 +1,13 @@
 // The ways to look at memory: quickly, or by the tables.
 ghost use Rattle.std.specs.Prelude.{◌≡◌, ℕ, IfErr, IfOk, IfSome, IsTrue, MatchResult, None, Ok, Some, false};
 ghost use Rattle.std.specs.declared.option.Option.{Option};
-ghost use Rattle.client_world.specs.Loading.{transfer_fault};
-ghost use Rattle.client_world.specs.declared.faults.Fault.{Fault as AFault};
-ghost use Rattle.client_world.specs.declared.segments.SegReg.{SegReg as Segment};
-ghost use Rattle.client_world.specs.World.{World};
-ghost use Rattle.guest_space.specs.Pending.{byte_count};
-ghost use Rattle.guest_space.specs.WriteRuns.{IsRun};
+ghost use Rattle.client_world.specs.{Loading.{transfer_fault}, declared.faults.Fault.{Fault as AFault}};
+ghost use Rattle.client_world.specs.{declared.segments.SegReg.{SegReg as Segment}, World.{World}};
+ghost use Rattle.guest_space.specs.{Pending.{byte_count}, WriteRuns.{IsRun}};
 ghost use Rattle.host_memory.specs.View.{MachineView};
-ghost use Rattle.insn_forms.specs.Kinds.{is_width};
-ghost use Rattle.insn_forms.specs.declared.insn.Insn.{Insn};
-ghost use Rattle.insn_plan.specs.Act.{Act, From, value_of};
-ghost use Rattle.insn_plan.specs.Looks.{CarriesOutBy, Clears, Reports, Shows, Writes};
-ghost use Rattle.insn_plan.specs.Operands.{source};
-ghost use Rattle.insn_plan.specs.Plan.{CarriesOut};
-ghost use Rattle.insn_plan.specs.Registers.{offset_of};
+ghost use Rattle.insn_forms.specs.{Kinds.{is_width}, declared.insn.Insn.{Insn}};
+ghost use Rattle.insn_plan.specs.{Act.{Act, From, value_of}, Looks.{CarriesOutBy, Clears, Reports, Shows, Writes}, Operands.{source}};
+ghost use Rattle.insn_plan.specs.{Plan.{CarriesOut}, Registers.{offset_of}};
 
 use crate::operands::{
     at_hand, given, note_and_write, noted_place, shown, write_quickly, write_there,

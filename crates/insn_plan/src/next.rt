@@ -1,9 +1,7 @@
 // What an instruction of several writes leaves.
 ghost use Rattle.std.specs.Prelude.{◌≡◌, ◌+◌, ◌<◌, ◌≤◌, length};
 ghost use Rattle.guest_space.specs.Pending.{first_write_fault};
-ghost use Rattle.insn_plan.specs.Act.{unchanged};
-ghost use Rattle.insn_plan.specs.Operands.{and_write, put_operand};
-ghost use Rattle.insn_plan.specs.Plan.{Follows, after_commit};
+ghost use Rattle.insn_plan.specs.{Act.{unchanged}, Operands.{and_write, put_operand}, Plan.{Follows, after_commit}};
 
 use crate::raised::Raised;
 use crate::registers::{offset_of, set_register};

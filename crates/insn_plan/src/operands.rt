@@ -1,13 +1,8 @@
 // Operands, read and written at once.
 ghost use Rattle.std.specs.Prelude.{◌≡◌, ◌∷◌, [], OnOk, IfErr, IfSome, IfNone, Ok, Some};
-ghost use Rattle.guest_space.specs.Pending.{byte_count, first_write_fault};
-ghost use Rattle.guest_space.specs.Registers.{with_registers};
-ghost use Rattle.guest_space.specs.WriteRuns.{IsRun};
-ghost use Rattle.insn_plan.specs.Act.{unchanged, value_of, with_flags};
-ghost use Rattle.insn_plan.specs.Operands.{and_write, given, put_operand, source};
-ghost use Rattle.insn_plan.specs.Plan.{Follows, after_commit};
-ghost use Rattle.insn_plan.specs.Registers.{offset_of, with_register};
-ghost use Rattle.insn_plan.specs.Written.{IsRefused, IsWritten};
+ghost use Rattle.guest_space.specs.{Pending.{byte_count, first_write_fault}, Registers.{with_registers}, WriteRuns.{IsRun}};
+ghost use Rattle.insn_plan.specs.{Act.{unchanged, value_of, with_flags}, Operands.{and_write, given, put_operand, source}, Plan.{Follows}};
+ghost use Rattle.insn_plan.specs.{Plan.{after_commit}, Registers.{offset_of, with_register}, Written.{IsRefused, IsWritten}};
 
 use crate::raised::Raised;
 use crate::read::{read_quickly, read_width};

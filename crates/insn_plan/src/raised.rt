@@ -1,7 +1,6 @@
 // What an instruction raises, in one word.
 ghost use Rattle.std.specs.Prelude.{◌≡◌};
-ghost use Rattle.client_world.specs.declared.faults.Event.{Event as AnEvent};
-ghost use Rattle.client_world.specs.declared.faults.Event.TheVariants.{Soft};
+ghost use Rattle.client_world.specs.{declared.faults.Event.{Event as AnEvent}, declared.faults.Event.TheVariants.{Soft}};
 ghost use Rattle.insn_plan.specs.Raised.{event_in};
 
 use client_world::{Event, Fault};

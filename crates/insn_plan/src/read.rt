@@ -1,8 +1,7 @@
 // Numbers read from memory.
 ghost use Rattle.std.specs.Prelude.{◌≡◌, Err, IfSome, MatchResult, Ok};
 ghost use Rattle.client_world.specs.declared.faults.Event.TheVariants.{Fault as fault};
-ghost use Rattle.guest_space.specs.Pending.{IsCountOfWidth, byte_count};
-ghost use Rattle.guest_space.specs.WriteRuns.{IsRun};
+ghost use Rattle.guest_space.specs.{Pending.{IsCountOfWidth, byte_count}, WriteRuns.{IsRun}};
 ghost use Rattle.insn_forms.specs.Grammar.{little_endian};
 ghost use Rattle.insn_plan.specs.Act.{From, IsCount, value_of};
 

@@ -1,13 +1,6 @@
 // General registers by their numbers, and effective addresses.
 ghost use Rattle.std.specs.Prelude.{◌≡◌, ◌<◌, ◌^◌, ◌⊎◌, IsTrue};
-ghost use Rattle.insn_plan.specs.Registers.{
-  register,
-  with_register,
-  cut_address,
-  with_address,
-  address_part,
-  offset_of,
-};
+ghost use Rattle.insn_plan.specs.Registers.{register, with_register, cut_address, with_address, address_part, offset_of};
 
 use client_world::Regs;
 use cpu_values::{part8, put8, put16};

@@ -1,21 +1,9 @@
 // The stack.
 ghost use Rattle.std.specs.Prelude.{◌≡◌, ◌+◌, ◌-◌, ◌<◌, ◌^◌, ◌⊎◌, IfSome, IsFalse, IsTrue, Ok, length, slice_index, ℕ};
 ghost use Rattle.client_world.specs.World.{World};
-ghost use Rattle.insn_plan.specs.Act.{Pending, unchanged, value_of};
-ghost use Rattle.insn_plan.specs.Looks.{FollowsBy, Shows};
-ghost use Rattle.insn_plan.specs.Plan.{Follows, after_commit};
-ghost use Rattle.insn_plan.specs.Registers.{cut_address};
-ghost use Rattle.insn_plan.specs.Stack.{
-  has_big_stack,
-  stack_pointer,
-  with_push,
-  pending_of_pushes,
-  esp_up,
-  with_pushed_number,
-  regs_after_pops,
-  stack_item,
-};
-ghost use Rattle.insn_plan.specs.declared.next.TheConstants.{MAX_WRITES};
+ghost use Rattle.insn_plan.specs.{Act.{Pending, unchanged, value_of}, Looks.{FollowsBy, Shows}, Plan.{Follows, after_commit}};
+ghost use Rattle.insn_plan.specs.{Registers.{cut_address}, Stack.{has_big_stack, stack_pointer, with_push, pending_of_pushes, esp_up}};
+ghost use Rattle.insn_plan.specs.{Stack.{with_pushed_number, regs_after_pops, stack_item}, declared.next.TheConstants.{MAX_WRITES}};
 
 use crate::looks::{Look, Quick, Tables};
 use crate::next::Next;

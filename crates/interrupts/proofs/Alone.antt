@@ -1,32 +1,21 @@
 -- What is made of a world doesn't depend on the bytes that hold it.
 use Rattle.std.proofs.Common.{◌≡◌, ℕ, Bool, true, false, List, [], ◌∷◌, refl, ap, ◌∙◌, sym, Option, None, Some, Result, Ok, Err}
-use Rattle.client_world.specs.declared.faults.Event.{Event}
-use Rattle.client_world.specs.declared.faults.Event.TheVariants.{Fault as fault}
-use Rattle.client_world.specs.declared.faults.Fault.{Fault}
-use Rattle.client_world.specs.declared.outcome.Exit.{Exit}
-use Rattle.client_world.specs.declared.outcome.Exit.TheVariants.{BadFrame}
-use Rattle.client_world.specs.declared.registers.Regs.{Regs}
-use Rattle.client_world.specs.declared.segments.FarPtr.{FarPtr}
-use Rattle.client_world.specs.Loading.{transfer_fault}
-use Rattle.client_world.specs.World.{World}
+use Rattle.client_world.specs.{declared.faults.Event.{Event}, declared.faults.Event.TheVariants.{Fault as fault}}
+use Rattle.client_world.specs.{declared.faults.Fault.{Fault}, declared.outcome.Exit.{Exit}, declared.outcome.Exit.TheVariants.{BadFrame}}
+use Rattle.client_world.specs.{declared.registers.Regs.{Regs}, declared.segments.FarPtr.{FarPtr}, Loading.{transfer_fault}, World.{World}}
 use Rattle.cpu_step.specs.Step.{view_with_next_eip, client_step, code, after_instruction, has_big_code, step_of}
-use Rattle.exec_flow.specs.FarTransfers.{code_selector, interrupt_frame_pop}
-use Rattle.exec_flow.specs.Interrupts.{frame_bits, interrupt_push}
-use Rattle.guest_space.specs.declared.pending.Write.{Write}
-use Rattle.guest_space.specs.Pending.{after_writes, first_write_fault, after_write}
+use Rattle.exec_flow.specs.{FarTransfers.{code_selector, interrupt_frame_pop}, Interrupts.{frame_bits, interrupt_push}}
+use Rattle.guest_space.specs.{declared.pending.Write.{Write}, Pending.{after_writes, first_write_fault, after_write}}
 use Rattle.guest_space.specs.Transfer.{after_store, with_places}
 use Rattle.host_memory.specs.View.{MachineView}
-use Rattle.insn_decode.specs.declared.decoding.Decoded.{Decoded}
-use Rattle.insn_decode.specs.declared.decoding.Decoded.TheVariants.{Whole, More, Invalid}
+use Rattle.insn_decode.specs.{declared.decoding.Decoded.{Decoded}, declared.decoding.Decoded.TheVariants.{Whole, More, Invalid}}
 use Rattle.insn_decode.specs.Decode.{decoded}
 use Rattle.insn_forms.specs.declared.insn.Insn.{Insn}
-use Rattle.insn_plan.specs.Act.{Pending}
-use Rattle.insn_plan.specs.Plan.{after_plan, plan_result, after_commit, with_state}
+use Rattle.insn_plan.specs.{Act.{Pending}, Plan.{after_plan, plan_result, after_commit, with_state}}
 use Rattle.interrupts.specs.Delivery.{after_frame_push, after_handler_entry, handler_interrupts, has_real_vector, interrupt_of}
 use Rattle.interrupts.specs.Delivery.{interrupt_vector, after_interrupt_entry, after_iret, result_of_pop, real_delivery, software_interrupt}
-use Rattle.interrupts.specs.Delivery.{exit_of_fault}
-use Rattle.interrupts.specs.Worlds.{view_without_bytes, world_of_result, on_world, world_delivery, world_interrupt, world_after_iret}
-use Rattle.interrupts.specs.Worlds.{world_step}
+use Rattle.interrupts.specs.{Delivery.{exit_of_fault}, Worlds.{view_without_bytes, world_of_result, on_world, world_delivery}}
+use Rattle.interrupts.specs.Worlds.{world_interrupt, world_after_iret, world_step}
 
 -- ---- writes
 

@@ -1,21 +1,13 @@
 -- The pushes of an interrupt don't change whether its handler can be entered.
 use Rattle.std.proofs.Common.{◌≡◌, ℕ, ◌*◌, ◌+◌, ◌<◌, refl, ap, sym, ◌∙◌, subst, arith, Option, None, Some, Result, Ok, Err, List, false}
 use Rattle.std.proofs.lemmas.Bool.{lt-ltb}
-use Rattle.client_world.specs.declared.faults.Fault.{Fault}
-use Rattle.client_world.specs.declared.memory_map.TheConstants.{SEGMENT_SIZE}
-use Rattle.client_world.specs.declared.registers.Mode.{Mode}
-use Rattle.client_world.specs.declared.registers.Mode.TheVariants.{Real, Protected}
-use Rattle.client_world.specs.declared.segments.FarPtr.{FarPtr}
-use Rattle.client_world.specs.declared.segments.SegReg.TheVariants.{Cs}
-use Rattle.client_world.specs.Loading.{load_fault, transfer_fault}
-use Rattle.client_world.specs.Selector.{Row}
-use Rattle.client_world.specs.Soundness.{IsSound}
-use Rattle.client_world.specs.World.{World}
+use Rattle.client_world.specs.{declared.faults.Fault.{Fault}, declared.memory_map.TheConstants.{SEGMENT_SIZE}}
+use Rattle.client_world.specs.{declared.registers.Mode.{Mode}, declared.registers.Mode.TheVariants.{Real, Protected}}
+use Rattle.client_world.specs.{declared.segments.FarPtr.{FarPtr}, declared.segments.SegReg.TheVariants.{Cs}, Loading.{load_fault}}
+use Rattle.client_world.specs.{Loading.{transfer_fault}, Selector.{Row}, Soundness.{IsSound}, World.{World}}
 use Rattle.exec_flow.specs.Interrupts.{interrupt_push}
 use Rattle.guest_ram.specs.Bytes.{word_of}
-use Rattle.guest_space.specs.Pending.{after_writes, first_write_fault}
-use Rattle.guest_space.specs.Transfer.{HasOtherMemory}
-use Rattle.guest_space.specs.VectorLists.{vector_at}
+use Rattle.guest_space.specs.{Pending.{after_writes, first_write_fault}, Transfer.{HasOtherMemory}, VectorLists.{vector_at}}
 use Rattle.guest_space.proofs.MemoryAlone.{other_all}
 use Rattle.host_memory.specs.View.{MachineView}
 use Rattle.interrupts.specs.Delivery.{after_frame_push, after_handler_entry, handler_fault, interrupt_vector, after_interrupt_entry}

@@ -1,32 +1,23 @@
 -- A step, an interrupt, an exception and a return change registers, the virtual interrupt flag and memory alone; a return changes no
 -- memory.
 use Rattle.std.proofs.Common.{◌≡◌, ◌∙◌, ℕ, List, ap, refl, Bool, false, Result, Ok, Err}
-use Rattle.client_world.specs.declared.faults.Event.{Event}
-use Rattle.client_world.specs.declared.faults.Event.TheVariants.{Fault as fault}
-use Rattle.client_world.specs.declared.faults.Fault.{Fault}
-use Rattle.client_world.specs.declared.registers.Regs.{Regs}
-use Rattle.client_world.specs.declared.segments.FarPtr.{FarPtr}
-use Rattle.client_world.specs.Loading.{transfer_fault}
-use Rattle.client_world.specs.World.{World}
+use Rattle.client_world.specs.{declared.faults.Event.{Event}, declared.faults.Event.TheVariants.{Fault as fault}}
+use Rattle.client_world.specs.{declared.faults.Fault.{Fault}, declared.registers.Regs.{Regs}, declared.segments.FarPtr.{FarPtr}}
+use Rattle.client_world.specs.{Loading.{transfer_fault}, World.{World}}
 use Rattle.cpu_step.specs.Step.{view_with_next_eip, client_row, client_step, code, after_instruction, has_big_code, step_of}
-use Rattle.exec_flow.specs.FarTransfers.{code_selector}
-use Rattle.exec_flow.specs.Interrupts.{interrupt_push}
-use Rattle.guest_space.specs.declared.pending.Write.{Write}
-use Rattle.guest_space.specs.Pending.{after_writes, first_write_fault}
+use Rattle.exec_flow.specs.{FarTransfers.{code_selector}, Interrupts.{interrupt_push}}
+use Rattle.guest_space.specs.{declared.pending.Write.{Write}, Pending.{after_writes, first_write_fault}}
 use Rattle.guest_space.proofs.MemoryAlone.{other_all}
 use Rattle.host_memory.specs.View.{MachineView}
-use Rattle.insn_decode.specs.declared.decoding.Decoded.{Decoded}
-use Rattle.insn_decode.specs.declared.decoding.Decoded.TheVariants.{Whole, More, Invalid}
+use Rattle.insn_decode.specs.{declared.decoding.Decoded.{Decoded}, declared.decoding.Decoded.TheVariants.{Whole, More, Invalid}}
 use Rattle.insn_decode.specs.Decode.{decoded}
 use Rattle.insn_forms.specs.declared.insn.Insn.{Insn}
-use Rattle.insn_plan.specs.Act.{Pending}
-use Rattle.insn_plan.specs.Plan.{after_plan, plan_result, after_commit, with_state}
+use Rattle.insn_plan.specs.{Act.{Pending}, Plan.{after_plan, plan_result, after_commit, with_state}}
 use Rattle.interrupts.specs.Delivery.{after_frame_push, after_handler_entry, handler_interrupts, has_real_vector, interrupt_vector}
-use Rattle.interrupts.specs.Delivery.{after_interrupt_entry, after_iret, real_delivery, software_interrupt}
-use Rattle.interrupts.specs.Worlds.{HasOtherRegisters, HasOtherRegistersAndMemory, HasOtherState, view_without_bytes, world_delivery}
-use Rattle.interrupts.specs.Worlds.{world_interrupt, world_after_iret, world_step}
-use Rattle.interrupts.proofs.ReturnStates.{return_state}
-use Rattle.interrupts.proofs.SoundAnswers.{delivered_was, granted_was, holds_of_answer, holds_of_world}
+use Rattle.interrupts.specs.{Delivery.{after_interrupt_entry, after_iret, real_delivery, software_interrupt}, Worlds.{HasOtherRegisters}}
+use Rattle.interrupts.specs.Worlds.{HasOtherRegistersAndMemory, HasOtherState, view_without_bytes, world_delivery, world_interrupt}
+use Rattle.interrupts.specs.Worlds.{world_after_iret, world_step}
+use Rattle.interrupts.proofs.{ReturnStates.{return_state}, SoundAnswers.{delivered_was, granted_was, holds_of_answer, holds_of_world}}
 
 -- one change after another
 kept_then : (w u t : World) → HasOtherRegistersAndMemory w u → HasOtherRegistersAndMemory u t → HasOtherRegistersAndMemory w t

@@ -1,29 +1,19 @@
 -- In real mode a frame can be popped exactly where its three words lie inside the stack segment.
 use Rattle.std.proofs.Common.{◌≡◌, ℕ, ◌+◌, ◌*◌, ◌%◌, ◌<◌, ◌^◌, Bool, true, false, ◌&&◌, List, refl, ap, ◌∙◌, sym, subst, arith, Option}
-use Rattle.std.proofs.Common.{Result, Ok, Err}
+use Rattle.std.proofs.{Common.{Result, Ok, Err}, lemmas.Bool.{leb-true, lt-ltb}, Math.Bool.{and-true, and_assoc}, Math.Nat.{mod-add-mod}}
 use Rattle.std.specs.Prelude.{is_ok, nat_le}
-use Rattle.std.proofs.lemmas.Bool.{leb-true, lt-ltb}
-use Rattle.std.proofs.Math.Bool.{and-true, and_assoc}
-use Rattle.std.proofs.Math.Nat.{mod-add-mod}
 use Rattle.client_world.proofs.PlaceLaws.{place-dos}
 use Rattle.client_world.specs.Access.{access, dos_address, linear, place_in, places_from, segment_base, touched_places}
-use Rattle.client_world.specs.declared.faults.Event.{Event}
-use Rattle.client_world.specs.declared.memory_map.TheConstants.{DOS_VIEW_END, PARAGRAPH_SIZE, SEGMENT_SIZE}
-use Rattle.client_world.specs.declared.place.Place.TheVariants.{Dos}
-use Rattle.client_world.specs.declared.registers.Mode.{Mode}
-use Rattle.client_world.specs.declared.registers.Mode.TheVariants.{Real}
-use Rattle.client_world.specs.declared.segments.SegReg.TheVariants.{Ss}
-use Rattle.client_world.specs.Soundness.{IsSound}
+use Rattle.client_world.specs.{declared.faults.Event.{Event}, declared.memory_map.TheConstants.{DOS_VIEW_END, PARAGRAPH_SIZE, SEGMENT_SIZE}}
+use Rattle.client_world.specs.{declared.place.Place.TheVariants.{Dos}, declared.registers.Mode.{Mode}}
+use Rattle.client_world.specs.{declared.registers.Mode.TheVariants.{Real}, declared.segments.SegReg.TheVariants.{Ss}, Soundness.{IsSound}}
 use Rattle.client_world.specs.World.{World, MemoryBlock}
 use Rattle.exec_flow.specs.FarTransfers.{far_transfer, interrupt_frame_pop}
 use Rattle.guest_space.specs.Transfer.{bytes_at, read_result}
 use Rattle.host_memory.specs.View.{MachineView}
-use Rattle.insn_plan.specs.Act.{Act, From, Read, number_read, value_of}
-use Rattle.insn_plan.specs.Plan.{plan_result}
-use Rattle.insn_plan.specs.Stack.{has_big_stack, stack_item}
-use Rattle.interrupts.specs.Delivery.{after_iret}
-use Rattle.interrupts.specs.RealFrames.{frame_fits, word_fits}
-use Rattle.interrupts.specs.Worlds.{view_without_bytes, world_of_result, world_after_iret}
+use Rattle.insn_plan.specs.{Act.{Act, From, Read, number_read, value_of}, Plan.{plan_result}, Stack.{has_big_stack, stack_item}}
+use Rattle.interrupts.specs.{Delivery.{after_iret}, RealFrames.{frame_fits, word_fits}, Worlds.{view_without_bytes, world_of_result}}
+use Rattle.interrupts.specs.Worlds.{world_after_iret}
 use Rattle.interrupts.proofs.ReturnPlans.{return_is_made, with_cs, with_image, with_ip}
 
 -- the world in real mode

@@ -1,21 +1,14 @@
 -- A return writes nothing, so that it can be made where its plan can.
 use Rattle.std.proofs.Common.{◌≡◌, ℕ, Bool, true, [], refl, ap, ◌∙◌, Option, None, Some, Result, Ok, Err}
 use Rattle.std.specs.Prelude.{is_ok}
-use Rattle.client_world.specs.declared.faults.Event.{Event}
-use Rattle.client_world.specs.declared.faults.Event.TheVariants.{Fault as fault}
-use Rattle.client_world.specs.declared.faults.Fault.{Fault}
-use Rattle.client_world.specs.Loading.{transfer_fault}
-use Rattle.client_world.specs.Registers.{low_half}
-use Rattle.client_world.specs.World.{World}
-use Rattle.exec_flow.specs.FarTransfers.{far_transfer, interrupt_frame_pop}
-use Rattle.exec_flow.specs.FlagImages.{with_popped_flags}
-use Rattle.exec_flow.specs.Interrupts.{frame_bits}
+use Rattle.client_world.specs.{declared.faults.Event.{Event}, declared.faults.Event.TheVariants.{Fault as fault}}
+use Rattle.client_world.specs.{declared.faults.Fault.{Fault}, Loading.{transfer_fault}, Registers.{low_half}, World.{World}}
+use Rattle.exec_flow.specs.{FarTransfers.{far_transfer, interrupt_frame_pop}, FlagImages.{with_popped_flags}, Interrupts.{frame_bits}}
 use Rattle.guest_space.proofs.Writes.{first_none}
 use Rattle.guest_space.specs.Pending.{after_writes, first_write_fault}
 use Rattle.host_memory.specs.View.{MachineView}
-use Rattle.insn_plan.specs.Act.{Act, Input, Pending, Read, done, unchanged, unless_fault, value_of, with_regs}
-use Rattle.insn_plan.specs.Plan.{after_plan, plan_result, after_commit, with_state}
-use Rattle.insn_plan.specs.Stack.{stack_item, regs_after_pops}
+use Rattle.insn_plan.specs.{Act.{Act, Input, Pending, Read, done, unchanged, unless_fault, value_of, with_regs}, Plan.{after_plan}}
+use Rattle.insn_plan.specs.{Plan.{plan_result, after_commit, with_state}, Stack.{stack_item, regs_after_pops}}
 use Rattle.interrupts.specs.Delivery.{result_of_pop, after_iret}
 
 -- a plan without writes, where there is one

@@ -1,17 +1,13 @@
 -- A return at a trap changes registers and the virtual interrupt flag alone, and no byte.
 use Rattle.std.proofs.Common.{◌≡◌, [], ap, ◌∙◌, Result, Ok, Err}
-use Rattle.client_world.specs.declared.faults.Event.{Event}
-use Rattle.client_world.specs.declared.faults.Event.TheVariants.{Fault as fault}
+use Rattle.client_world.specs.{declared.faults.Event.{Event}, declared.faults.Event.TheVariants.{Fault as fault}}
 use Rattle.exec_flow.specs.Interrupts.{frame_bits}
 use Rattle.guest_space.proofs.Writes.{all_none}
 use Rattle.guest_space.specs.Pending.{after_writes, first_write_fault}
 use Rattle.host_memory.specs.View.{MachineView}
-use Rattle.insn_plan.specs.Act.{Pending}
-use Rattle.insn_plan.specs.Plan.{after_plan, after_commit, with_state}
-use Rattle.interrupts.specs.Delivery.{after_iret}
-use Rattle.interrupts.specs.Worlds.{HasOtherState}
-use Rattle.interrupts.proofs.ReturnPlans.{WritesNothing, quiet_frame}
-use Rattle.interrupts.proofs.SoundAnswers.{granted_was, holds_of_answer, return_was}
+use Rattle.insn_plan.specs.{Act.{Pending}, Plan.{after_plan, after_commit, with_state}}
+use Rattle.interrupts.specs.{Delivery.{after_iret}, Worlds.{HasOtherState}}
+use Rattle.interrupts.proofs.{ReturnPlans.{WritesNothing, quiet_frame}, SoundAnswers.{granted_was, holds_of_answer, return_was}}
 
 settled_state : (v u : MachineView) (p : Pending) → p.writes ≡ [] → after_commit v p ≡ Ok u → HasOtherState v u
 unfolding after_commit

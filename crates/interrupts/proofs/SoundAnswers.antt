@@ -1,55 +1,30 @@
 -- An interrupt, an exception and a return lead from a sound world to a sound one.
-use Rattle.std.proofs.Common.{◌≡◌, ℕ, ◌+◌, ◌*◌, ◌<◌, inl, inr, List, length, refl, subst, arith, if◌then◌else◌, Bool, true, false, Option}
-use Rattle.std.proofs.Common.{None, Some, Result, Ok, Err}
+use Rattle.std.proofs.Common.{◌≡◌, ℕ, ◌+◌, ◌*◌, ◌<◌, List, length, refl, subst, arith, if◌then◌else◌, Bool, true, false, Option, None, Some}
+use Rattle.std.proofs.Common.{Result, Ok, Err}
 use Rattle.std.specs.Prelude.{IfOk}
-use Rattle.std.proofs.lemmas.Bool.{cases_lt}
-use Rattle.std.proofs.lemmas.List.{get_or_past}
-use Rattle.client_world.specs.declared.faults.Event.{Event}
-use Rattle.client_world.specs.declared.faults.Fault.{Fault}
-use Rattle.client_world.specs.declared.faults.TheConstants.{GENERAL_PROTECTION}
-use Rattle.client_world.specs.declared.host_frames.TheConstants.{DESCRIPTORS}
-use Rattle.client_world.specs.declared.registers.Mode.{Mode}
-use Rattle.client_world.specs.declared.registers.Mode.TheVariants.{Real, Protected}
-use Rattle.client_world.specs.declared.segments.FarPtr.{FarPtr}
-use Rattle.client_world.specs.declared.segments.SegReg.TheVariants.{Cs}
-use Rattle.client_world.specs.Access.{fault_with}
-use Rattle.client_world.specs.Loading.{code_row_fault, load_fault, transfer_fault}
-use Rattle.client_world.specs.Selector.{Row, is_null, is_local, index_of, row_at_index}
-use Rattle.client_world.specs.Soundness.{IsSound}
-use Rattle.client_world.specs.World.{World}
+use Rattle.client_world.specs.{declared.faults.Event.{Event}, declared.faults.Fault.{Fault}}
+use Rattle.client_world.specs.{declared.host_frames.TheConstants.{DESCRIPTORS}, declared.registers.Mode.{Mode}}
+use Rattle.client_world.specs.{declared.registers.Mode.TheVariants.{Real, Protected}, declared.segments.FarPtr.{FarPtr}}
+use Rattle.client_world.specs.{declared.segments.SegReg.TheVariants.{Cs}, Loading.{load_fault, transfer_fault}, Selector.{Row}}
+use Rattle.client_world.specs.{Soundness.{IsSound}, World.{World}}
 use Rattle.cpu_step.specs.Step.{view_with_next_eip, client_step}
-use Rattle.cpu_step.proofs.FlowSegments.{code_is_word, frame_leaves}
-use Rattle.cpu_step.proofs.SegmentWords.{HoldWords, words_of, segments_of, words_pushed}
-use Rattle.cpu_step.proofs.SoundSteps.{sound_behind, sound_by_plan, sound_step}
-use Rattle.cpu_step.proofs.SoundWritten.{sound_all_written, sound_state}
-use Rattle.exec_flow.specs.FarTransfers.{code_selector, interrupt_frame_pop}
-use Rattle.exec_flow.specs.Interrupts.{frame_bits, interrupt_push}
+use Rattle.cpu_step.proofs.{FlowSegments.{code_is_word, frame_leaves}, SegmentWords.{HoldWords, words_of, segments_of, words_pushed}}
+use Rattle.cpu_step.proofs.{SoundSteps.{sound_behind, sound_by_plan, sound_step}, SoundWritten.{sound_all_written, sound_state}}
+use Rattle.exec_flow.specs.{FarTransfers.{code_selector, interrupt_frame_pop}, Interrupts.{frame_bits, interrupt_push}}
 use Rattle.guest_space.specs.Pending.{after_writes, first_write_fault}
 use Rattle.host_memory.specs.View.{MachineView}
-use Rattle.insn_plan.specs.Act.{unchanged}
-use Rattle.insn_plan.specs.Plan.{plan_result, after_plan, with_state}
+use Rattle.insn_plan.specs.{Act.{unchanged}, Plan.{plan_result, after_plan, with_state}}
 use Rattle.interrupts.specs.Delivery.{after_frame_push, after_handler_entry, handler_interrupts, has_real_vector, interrupt_of}
 use Rattle.interrupts.specs.Delivery.{interrupt_vector, after_interrupt_entry, after_iret, result_of_pop, real_delivery, software_interrupt}
-use Rattle.interrupts.specs.Delivery.{exit_of_fault}
-use Rattle.interrupts.specs.Worlds.{view_without_bytes, world_of_result, world_delivery, world_interrupt, world_after_iret, world_step}
+use Rattle.interrupts.specs.{Delivery.{exit_of_fault}, Worlds.{view_without_bytes, world_of_result, world_delivery, world_interrupt}}
+use Rattle.interrupts.specs.Worlds.{world_after_iret, world_step}
+use Rattle.client_world.proofs.NamedWords.{loaded_is_word}
 
 -- ---- a selector that names a descriptor is a word
 
-no_code_there : (null local : Bool) (row : Row) (sel offset : ℕ) (return : Bool) → row ≡ None →
-    (if null then Some (fault_with GENERAL_PROTECTION 0) else code_row_fault (if local then row else None) sel offset return) ≡ None → ⊥
-no_code_there true local row sel offset return none e = absurd cc
-no_code_there false true None sel offset return none e = absurd cc
-no_code_there false true (Some row) sel offset return none e = absurd cc
-no_code_there false false row sel offset return none e = absurd cc
-
 pub code_is_named_by_a_word : (rows : List Row) (sel offset : ℕ) (return : Bool) → length rows ≡ DESCRIPTORS →
     load_fault rows Cs sel offset return ≡ None → sel < 0x10000
-unfolding load_fault
-code_is_named_by_a_word rows sel offset return size e = elim (cases_lt sel 0x10000) [
-  | inl small ↦ small
-  | inr large ↦ absurd (no_code_there (is_null sel) (is_local sel) (row_at_index rows (index_of sel)) sel offset return
-      (get_or_past rows (index_of sel) None (omega (arith, size))) e)
-]
+code_is_named_by_a_word rows sel offset return size e = loaded_is_word rows Cs sel offset return size e
 
 -- ---- an interrupt
 
@@ -70,15 +45,8 @@ sound_at_handler : (v : MachineView) (p : FarPtr) → IsSound v.world → p.sel 
 sound_at_handler v p s small =
     let r = record v.world.regs { cs = code_selector v.world p.sel; eip = p.off } in
     let words = words_of v.world.regs s.segments in
-    sound_state v (record (unchanged v.world) { regs = r; vif = handler_interrupts v.world })
-    (segments_of r (record {
-      es_fits = words.es_fits;
-      cs_fits = code_is_word v.world p.sel small;
-      ss_fits = words.ss_fits;
-      ds_fits = words.ds_fits;
-      fs_fits = words.fs_fits;
-      gs_fits = words.gs_fits;
-    })) s
+    let code = code_is_word v.world p.sel small in
+    sound_state v (record (unchanged v.world) { regs = r; vif = handler_interrupts v.world }) (segments_of r assumption) s
 
 sound_where_granted : (o : Option Fault) (at u : MachineView) → (o ≡ None → IsSound at.world) →
     elim o as (λ _. Result MachineView Fault) [ Some f ↦ Err f | None ↦ Ok at ] ≡ Ok u → IsSound u.world

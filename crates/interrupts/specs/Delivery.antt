@@ -1,26 +1,18 @@
 -- Software interrupts, exceptions in real mode, and the return from an interrupt at a trap.
 -- Source: 80386 Programmer's Reference Manual, ch. 17, INT/INTO and IRET, and ch. 9; DPMI 0.9, "Interrupts"; which exceptions the vectors
 -- of real mode serve, and that all others end the client, is own.
-use Rattle.std.specs.Prelude.{ℕ, Bool, false, ◌||◌, nat_eq, if◌then◌else◌, Ok, Err, Some, None}
-use Rattle.std.specs.declared.option.Option.{Option}
+use Rattle.std.specs.{Prelude.{ℕ, Bool, false, ◌||◌, nat_eq, if◌then◌else◌, Ok, Err, Some, None}, declared.option.Option.{Option}}
 use Rattle.std.specs.declared.result.Result.{Result}
-use Rattle.client_world.specs.declared.faults.Event.{Event}
-use Rattle.client_world.specs.declared.faults.Fault.{Fault}
-use Rattle.client_world.specs.declared.faults.TheConstants.{DIVIDE_ERROR, BOUNDS_CHECK, INVALID_OPCODE, COPROCESSOR_NOT_AVAILABLE}
-use Rattle.client_world.specs.declared.outcome.Exit.{Exit}
-use Rattle.client_world.specs.declared.outcome.Exit.TheVariants as exits
-use Rattle.client_world.specs.declared.registers.Mode.TheVariants.{Real, Protected}
-use Rattle.client_world.specs.declared.segments.FarPtr.{FarPtr}
-use Rattle.client_world.specs.Loading.{transfer_fault}
-use Rattle.client_world.specs.World.{World}
+use Rattle.client_world.specs.{declared.faults.Event.{Event}, declared.faults.Fault.{Fault}, declared.faults.TheConstants.{DIVIDE_ERROR}}
+use Rattle.client_world.specs.declared.faults.TheConstants.{BOUNDS_CHECK, INVALID_OPCODE, COPROCESSOR_NOT_AVAILABLE}
+use Rattle.client_world.specs.{declared.outcome.Exit.{Exit}, declared.registers.Mode.TheVariants.{Real, Protected}}
+use Rattle.client_world.specs.{declared.segments.FarPtr.{FarPtr}, Loading.{transfer_fault}, World.{World}}
 use Rattle.cpu_step.specs.Step.{view_with_next_eip}
-use Rattle.exec_flow.specs.FarTransfers.{code_selector, interrupt_frame_pop}
-use Rattle.exec_flow.specs.Interrupts.{frame_bits, interrupt_push}
-use Rattle.guest_space.specs.Dos.{real_vector}
-use Rattle.guest_space.specs.Pending.{first_write_fault, after_writes}
-use Rattle.guest_space.specs.VectorLists.{vector_at}
+use Rattle.exec_flow.specs.{FarTransfers.{code_selector, interrupt_frame_pop}, Interrupts.{frame_bits, interrupt_push}}
+use Rattle.guest_space.specs.{Dos.{real_vector}, Pending.{first_write_fault, after_writes}, VectorLists.{vector_at}}
 use Rattle.host_memory.specs.View.{MachineView}
 use Rattle.insn_plan.specs.Plan.{plan_result, after_plan, with_state}
+use Rattle.client_world.specs.declared.outcome.Exit.TheVariants as exits
 
 -- ---- software interrupts
 

@@ -1,11 +1,7 @@
 -- The same of worlds alone: what a step, an interrupt, an exception and a return make of a world. Which bytes hold it doesn't matter.
 -- Source: own.
-use Rattle.std.specs.Prelude.{◌≡◌, ℕ, [], Ok, Err}
-use Rattle.std.specs.declared.result.Result.{Result}
-use Rattle.client_world.specs.declared.faults.Event.{Event}
-use Rattle.client_world.specs.declared.faults.Fault.{Fault}
-use Rattle.client_world.specs.declared.outcome.Exit.{Exit}
-use Rattle.client_world.specs.World.{World}
+use Rattle.std.specs.{Prelude.{◌≡◌, ℕ, [], Ok, Err}, declared.result.Result.{Result}}
+use Rattle.client_world.specs.{declared.faults.Event.{Event}, declared.faults.Fault.{Fault}, declared.outcome.Exit.{Exit}, World.{World}}
 use Rattle.cpu_step.specs.Step.{client_step}
 use Rattle.host_memory.specs.View.{MachineView}
 use Rattle.insn_plan.specs.Plan.{with_state}

@@ -1,8 +1,7 @@
 // Exceptions of real mode.
 ghost use Rattle.std.specs.Prelude.{◌≡◌, Ok, Err, MatchResult};
 ghost use Rattle.client_world.specs.declared.registers.Mode.TheVariants.{Real};
-ghost use Rattle.interrupts.specs.Delivery.{has_real_vector, real_delivery};
-ghost use Rattle.interrupts.specs.Worlds.{world_delivery};
+ghost use Rattle.interrupts.specs.{Delivery.{has_real_vector, real_delivery}, Worlds.{world_delivery}};
 
 use crate::software::soft_int;
 use client_world::faults::{BOUNDS_CHECK, COPROCESSOR_NOT_AVAILABLE, DIVIDE_ERROR, INVALID_OPCODE};

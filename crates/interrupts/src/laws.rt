@@ -1,13 +1,10 @@
 // What holds of every answer. Each is a function with nothing to do: its contract is the law.
 ghost use Rattle.std.specs.Prelude.{◌≡◌, ℕ, Ok, is_ok};
-ghost use Rattle.client_world.specs.declared.faults.Fault.{Fault};
-ghost use Rattle.client_world.specs.declared.registers.Mode.TheVariants.{Real};
-ghost use Rattle.client_world.specs.Soundness.{IsSound};
+ghost use Rattle.client_world.specs.{declared.faults.Fault.{Fault}, declared.registers.Mode.TheVariants.{Real}, Soundness.{IsSound}};
 ghost use Rattle.client_world.specs.World.{World};
 ghost use Rattle.cpu_step.specs.Step.{client_step};
 ghost use Rattle.host_memory.specs.View.{MachineView};
-ghost use Rattle.interrupts.specs.Delivery.{after_iret, real_delivery, software_interrupt};
-ghost use Rattle.interrupts.specs.RealFrames.{frame_fits};
+ghost use Rattle.interrupts.specs.{Delivery.{after_iret, real_delivery, software_interrupt}, RealFrames.{frame_fits}};
 ghost use Rattle.interrupts.specs.Worlds.{HasOtherRegisters, HasOtherRegistersAndMemory, HasOtherState, world_of_result, world_delivery};
 ghost use Rattle.interrupts.specs.Worlds.{world_interrupt, world_after_iret, world_step};
 

@@ -1,7 +1,6 @@
 // The return from an interrupt at a trap.
 ghost use Rattle.std.specs.Prelude.{◌≡◌, is_ok, Ok, Err, MatchResult};
-ghost use Rattle.interrupts.specs.Delivery.{after_iret};
-ghost use Rattle.interrupts.specs.Worlds.{world_after_iret};
+ghost use Rattle.interrupts.specs.{Delivery.{after_iret}, Worlds.{world_after_iret}};
 
 use client_world::Exit;
 use exec_flow::{can_pop_frame, frame_bits, pop_frame};

@@ -3,16 +3,8 @@ ghost use Rattle.std.specs.Prelude.{false, ◌≡◌, IfErr, None, OnOk, Some, O
 ghost use Rattle.client_world.specs.Loading.{transfer_fault};
 ghost use Rattle.exec_flow.specs.Interrupts.{interrupt_push};
 ghost use Rattle.guest_space.specs.Pending.{first_write_fault};
-ghost use Rattle.interrupts.specs.Delivery.{
-  after_frame_push,
-  after_handler_entry,
-  handler_fault,
-  handler_interrupts,
-  interrupt_vector,
-  after_interrupt_entry,
-  software_interrupt,
-};
-ghost use Rattle.interrupts.specs.Worlds.{world_interrupt};
+ghost use Rattle.interrupts.specs.Delivery.{after_frame_push, after_handler_entry, handler_fault, handler_interrupts, interrupt_vector};
+ghost use Rattle.interrupts.specs.{Delivery.{after_interrupt_entry, software_interrupt}, Worlds.{world_interrupt}};
 
 use client_world::{Event, FarPtr, Fault, Mode, SegReg};
 use cpu_step::move_past;

@@ -1,17 +1,12 @@
 -- The descriptors of the entry may be put, one after another: before the entry there are none.
 use Rattle.std.proofs.Common.{◌≡◌, ◌≢◌, ℕ, ◌+◌, ◌<◌, ◌≤◌, List, slice_set, ◌∙◌, arith, None, Some, get_or-set_other}
-use Rattle.client_world.specs.declared.descriptors.Desc.{Desc}
-use Rattle.client_world.specs.declared.descriptors.Origin.{Origin}
-use Rattle.client_world.specs.declared.host_frames.TheConstants.{DESCRIPTORS, FIRST_FREE_DESCRIPTOR}
-use Rattle.client_world.specs.declared.registers.Width.{Width}
-use Rattle.client_world.specs.Descriptor.{FitsDescriptor}
-use Rattle.client_world.specs.Selector.{Row, row_at_index}
-use Rattle.client_world.specs.Soundness.{IsSound, IsPlainOrigin, IsOfDosBlock}
+use Rattle.client_world.specs.{declared.descriptors.Desc.{Desc}, declared.descriptors.Origin.{Origin}}
+use Rattle.client_world.specs.{declared.host_frames.TheConstants.{DESCRIPTORS, FIRST_FREE_DESCRIPTOR}, declared.registers.Width.{Width}}
+use Rattle.client_world.specs.{Descriptor.{FitsDescriptor}, Selector.{Row, row_at_index}, Soundness.{IsSound, IsPlainOrigin, IsOfDosBlock}}
 use Rattle.client_world.specs.World.{World}
 use Rattle.client_world.proofs.SoundRows.{IsSound-row, high_is_clients, none_not_dos, plain_not_dos}
 use Rattle.guest_space.proofs.HostRows.{before, no_others}
-use Rattle.mode_gates.specs.Entry.{host_rows}
-use Rattle.mode_gates.specs.Rows.{AreFreeFrom}
+use Rattle.mode_gates.specs.{Entry.{host_rows}, Rows.{AreFreeFrom}}
 
 -- what set_desc asks
 pub record MayPut (w : World) (index : ℕ) (row : Row) : Type 0 where

@@ -1,8 +1,7 @@
 -- What a far return makes of a world doesn't depend on the bytes that hold it.
 use Rattle.std.proofs.Common.{◌≡◌, ap, ◌∙◌, sym, Ok, Err}
 use Rattle.client_world.specs.declared.outcome.Exit.{Exit}
-use Rattle.exec_flow.specs.FarTransfers.{far_frame_pop}
-use Rattle.exec_flow.specs.Interrupts.{frame_bits}
+use Rattle.exec_flow.specs.{FarTransfers.{far_frame_pop}, Interrupts.{frame_bits}}
 use Rattle.host_memory.specs.View.{MachineView}
 use Rattle.insn_plan.specs.Plan.{plan_result}
 use Rattle.interrupts.specs.Worlds.{world_of_result}

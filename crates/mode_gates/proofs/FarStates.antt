@@ -1,28 +1,18 @@
 -- A far return at a trap changes registers alone, and no byte; what the entry keeps.
 use Rattle.std.proofs.Common.{◌≡◌, ◌∙◌, ℕ, Bool, true, refl, ap, subst, Option, None, Some, Result, Ok, Err}
-use Rattle.client_world.specs.Loading.{transfer_fault}
-use Rattle.client_world.specs.Registers.{low_half}
-use Rattle.client_world.specs.declared.faults.Event.{Event}
-use Rattle.client_world.specs.declared.faults.Event.TheVariants.{Fault as fault}
-use Rattle.client_world.specs.declared.faults.Fault.{Fault}
-use Rattle.client_world.specs.declared.outcome.Exit.{Exit}
-use Rattle.client_world.specs.declared.registers.Width.{Width}
-use Rattle.client_world.specs.Services.{Served}
-use Rattle.client_world.specs.World.{World}
-use Rattle.exec_flow.specs.FarTransfers.{far_frame_pop, far_transfer}
-use Rattle.exec_flow.specs.Interrupts.{frame_bits}
-use Rattle.exec_flow.specs.Transfers.{regs_after_drop}
+use Rattle.client_world.specs.{Loading.{transfer_fault}, Registers.{low_half}, declared.faults.Event.{Event}}
+use Rattle.client_world.specs.{declared.faults.Event.TheVariants.{Fault as fault}, declared.faults.Fault.{Fault}}
+use Rattle.client_world.specs.{declared.outcome.Exit.{Exit}, declared.registers.Width.{Width}, Services.{Served}, World.{World}}
+use Rattle.exec_flow.specs.{FarTransfers.{far_frame_pop, far_transfer}, Interrupts.{frame_bits}, Transfers.{regs_after_drop}}
 use Rattle.guest_space.specs.Pending.{after_writes, first_write_fault}
 use Rattle.host_memory.specs.View.{MachineView}
-use Rattle.insn_plan.specs.Act.{Act, Input, Pending, Read, done, unchanged, unless_fault, value_of, with_regs}
-use Rattle.insn_plan.specs.Plan.{after_commit, after_plan, plan_result, with_state}
-use Rattle.insn_plan.specs.Stack.{regs_after_pops, stack_item}
+use Rattle.insn_plan.specs.{Act.{Act, Input, Pending, Read, done, unchanged, unless_fault, value_of, with_regs}, Plan.{after_commit}}
+use Rattle.insn_plan.specs.{Plan.{after_plan, plan_result, with_state}, Stack.{regs_after_pops, stack_item}}
 use Rattle.interrupts.specs.Worlds.{view_without_bytes}
-use Rattle.interrupts.proofs.ReturnPlans.{IsQuiet, quiet_read, quiet_transfer}
-use Rattle.interrupts.proofs.ReturnStates.{quiet_state}
-use Rattle.interrupts.proofs.SoundAnswers.{granted_was, holds_of_answer, holds_of_world, return_was}
-use Rattle.mode_gates.specs.Entry.{after_first_entry, entry, entry_after, entry_answer}
-use Rattle.mode_gates.specs.FarFrames.{after_far_return, world_after_far_return}
+use Rattle.interrupts.proofs.{ReturnPlans.{IsQuiet, quiet_read, quiet_transfer}, ReturnStates.{quiet_state}, SoundAnswers.{granted_was}}
+use Rattle.interrupts.proofs.SoundAnswers.{holds_of_answer, holds_of_world, return_was}
+use Rattle.mode_gates.specs.{Entry.{after_first_entry, entry, entry_after, entry_answer}, FarFrames.{after_far_return}}
+use Rattle.mode_gates.specs.FarFrames.{world_after_far_return}
 
 abbrev with_cs : World → ℕ → ℕ → ℕ → ℕ → Act
 with_cs w bits bytes ip cs =
@@ -72,7 +62,7 @@ flag_far : (w : World) (bits bytes : ℕ) → KeepsFlag w (plan_result w (far_fr
 unfolding far_frame_pop
 flag_far w bits bytes = flag_read w (stack_item w bits 0) (with_ip w bits bytes) (flag_ip w bits bytes)
 
-settled_flag : (v u : MachineView) (p : Pending) → p.vif ≡ v.world.vif → after_commit v p ≡ Ok u → u.world.vif ≡ v.world.vif
+pub settled_flag : (v u : MachineView) (p : Pending) → p.vif ≡ v.world.vif → after_commit v p ≡ Ok u → u.world.vif ≡ v.world.vif
 unfolding after_commit
 settled_flag v u p keeps e =
     let x = with_state p.regs p.vif (after_writes v p.writes) in

@@ -1,38 +1,27 @@
 -- A far return at a trap and the entry lead from a sound world to a sound one.
-use Rattle.std.proofs.Common.{◌≡◌, ◌≢◌, ℕ, ◌+◌, ◌/◌, ◌%◌, ◌<◌, ◌≤◌, ◌^◌, true, slice_set, refl, subst, arith, Option, None, Some, Result}
-use Rattle.std.proofs.Common.{Ok, Err}
-use Rattle.client_world.specs.declared.descriptors.Desc.{Desc}
-use Rattle.client_world.specs.declared.descriptors.Origin.{Origin}
-use Rattle.client_world.specs.declared.descriptors.Origin.TheVariants.{Entry, Psp}
-use Rattle.client_world.specs.declared.host_frames.TheConstants.{DESCRIPTORS, FIRST_FREE_DESCRIPTOR}
-use Rattle.client_world.specs.declared.outcome.Exit.{Exit}
-use Rattle.client_world.specs.declared.registers.Mode.TheVariants.{Protected}
-use Rattle.client_world.specs.declared.registers.Regs.{Regs}
-use Rattle.client_world.specs.declared.registers.Width.{Width}
-use Rattle.client_world.specs.declared.registers.Width.TheVariants.{Sixteen}
-use Rattle.client_world.specs.declared.memory_map.TheConstants.{PSP_SEGMENT}
-use Rattle.client_world.specs.declared.selectors.TheConstants.{ENTRY_CODE, ENTRY_STACK, ENTRY_DATA, ENTRY_PSP, ENTRY_ENVIRONMENT}
-use Rattle.client_world.specs.Descriptor.{FitsDescriptor}
-use Rattle.client_world.specs.Selector.{selector_of}
-use Rattle.client_world.specs.Services.{Served}
-use Rattle.client_world.specs.Soundness.{IsSound, HasSegments, SoundMegabyte, IsPlainOrigin}
+use Rattle.std.proofs.Common.{◌≡◌, ◌≢◌, ℕ, ◌+◌, ◌/◌, ◌%◌, ◌<◌, ◌≤◌, ◌^◌, true, refl, subst, arith, Option, None, Some, Result, Ok, Err}
+use Rattle.client_world.specs.{declared.descriptors.Desc.{Desc}, declared.descriptors.Origin.{Origin}}
+use Rattle.client_world.specs.{declared.descriptors.Origin.TheVariants.{Entry, Psp}, declared.host_frames.TheConstants.{DESCRIPTORS}}
+use Rattle.client_world.specs.{declared.host_frames.TheConstants.{FIRST_FREE_DESCRIPTOR}, declared.outcome.Exit.{Exit}}
+use Rattle.client_world.specs.{declared.registers.Mode.TheVariants.{Protected}, declared.registers.Regs.{Regs}}
+use Rattle.client_world.specs.{declared.registers.Width.{Width}, declared.registers.Width.TheVariants.{Sixteen}}
+use Rattle.client_world.specs.{declared.memory_map.TheConstants.{PSP_SEGMENT}, declared.selectors.TheConstants.{ENTRY_CODE, ENTRY_STACK}}
+use Rattle.client_world.specs.{declared.selectors.TheConstants.{ENTRY_DATA, ENTRY_PSP, ENTRY_ENVIRONMENT}, Descriptor.{FitsDescriptor}}
+use Rattle.client_world.specs.{Selector.{selector_of}, Services.{Served}, Soundness.{IsSound, HasSegments, SoundMegabyte, IsPlainOrigin}}
 use Rattle.client_world.specs.World.{World}
 use Rattle.client_world.proofs.SoundWrites.{IsSound-dos, IsSound-mode, IsSound-regs, SoundMegabyte-set}
-use Rattle.cpu_step.proofs.FlowSegments.{far_frame_leaves}
-use Rattle.cpu_step.proofs.SegmentWords.{words_of}
-use Rattle.cpu_step.proofs.SoundSteps.{sound_by_plan}
-use Rattle.exec_flow.specs.FarTransfers.{far_frame_pop}
-use Rattle.exec_flow.specs.Interrupts.{frame_bits}
+use Rattle.cpu_step.proofs.{FlowSegments.{far_frame_leaves}, SegmentWords.{words_of}, SoundSteps.{sound_by_plan}}
+use Rattle.exec_flow.specs.{FarTransfers.{far_frame_pop}, Interrupts.{frame_bits}}
 use Rattle.guest_ram.specs.Bytes.{with_word}
 use Rattle.guest_space.proofs.HostRows.{IsSound-width}
 use Rattle.host_memory.specs.View.{MachineView}
 use Rattle.insn_plan.specs.Plan.{plan_result, after_plan}
 use Rattle.interrupts.specs.Worlds.{view_without_bytes}
 use Rattle.interrupts.proofs.SoundAnswers.{holds_of_world, return_was}
+use Rattle.service_rows.specs.Rows.{with_carry, with_row}
 use Rattle.mode_gates.specs.Entry.{asked_width, code_of_segment, data_of_segment, after_first_entry, entry, entry_after, entry_registers}
-use Rattle.mode_gates.specs.Entry.{entry_rows, entry_answer, environment_of, environment_word, host_rows, with_carry}
-use Rattle.mode_gates.specs.FarFrames.{after_far_return, world_after_far_return}
-use Rattle.mode_gates.specs.Rows.{AreFreeFrom}
+use Rattle.mode_gates.specs.{Entry.{entry_rows, entry_answer, environment_of, environment_word, host_rows}, FarFrames.{after_far_return}}
+use Rattle.mode_gates.specs.{FarFrames.{world_after_far_return}, Rows.{AreFreeFrom}}
 use Rattle.mode_gates.proofs.EntryRows.{free_at_first, free_after, may_put}
 
 -- ---- the return address
@@ -59,16 +48,12 @@ record IsReady (w : World) (index : ℕ) : Type 0 where
 
 next_ready : (w : World) (index : ℕ) (d : Desc) (origin : Origin) → IsReady w index → FIRST_FREE_DESCRIPTOR ≤ index → index < DESCRIPTORS →
     FitsDescriptor d → IsPlainOrigin origin →
-    IsReady (record w { descriptors = slice_set w.descriptors index (Some (d, origin)) }) (index + 1)
+    IsReady (with_row index (Some (d, origin)) w) (index + 1)
 next_ready w index d origin ready from to fits plain = record {
   sound = (may_put w index d origin ready.sound ready.width from to fits plain ready.free).sound;
   width = ready.width;
   free = free_after w.descriptors index (Some (d, origin)) ready.free;
 }
-
--- the world with the descriptors of the host, and with each of the client's besides
-abbrev with_row : World → ℕ → Desc → Origin → World
-with_row w index d origin = record w { descriptors = slice_set w.descriptors index (Some (d, origin)) }
 
 -- sixteen times a word is an address of 32 bits
 fits_code : (segment : ℕ) → segment < 0x10000 → FitsDescriptor (code_of_segment segment)
@@ -89,16 +74,16 @@ unfolding entry_rows
 sound_rows w width s e =
     let w0 : World = record w { width = Some width; descriptors = host_rows w.descriptors width } in
     let r0 : IsReady w0 64 = record { sound = IsSound-width w width s e; width = λ none. cc; free = free_at_first w width s e } in
-    let w1 = with_row w0 ENTRY_CODE (code_of_segment w.regs.cs) Entry in
+    let w1 = with_row ENTRY_CODE (Some (code_of_segment w.regs.cs, Entry)) w0 in
     let r1 : IsReady w1 65 = next_ready w0 64 (code_of_segment w.regs.cs) Entry r0 (omega arith) (omega arith)
     (fits_code w.regs.cs s.segments.cs) tt in
-    let w2 = with_row w1 ENTRY_STACK (data_of_segment w.regs.ss 0xFFFF width) Entry in
+    let w2 = with_row ENTRY_STACK (Some (data_of_segment w.regs.ss 0xFFFF width, Entry)) w1 in
     let r2 : IsReady w2 66 = next_ready w1 65 (data_of_segment w.regs.ss 0xFFFF width) Entry r1 (omega arith) (omega arith)
     (fits_data w.regs.ss 0xFFFF width s.segments.ss (omega arith)) tt in
-    let w3 = with_row w2 ENTRY_DATA (data_of_segment w.regs.ds 0xFFFF width) Entry in
+    let w3 = with_row ENTRY_DATA (Some (data_of_segment w.regs.ds 0xFFFF width, Entry)) w2 in
     let r3 : IsReady w3 67 = next_ready w2 66 (data_of_segment w.regs.ds 0xFFFF width) Entry r2 (omega arith) (omega arith)
     (fits_data w.regs.ds 0xFFFF width s.segments.ds (omega arith)) tt in
-    let w4 = with_row w3 ENTRY_PSP (data_of_segment PSP_SEGMENT 0xFF Sixteen) Psp in
+    let w4 = with_row ENTRY_PSP (Some (data_of_segment PSP_SEGMENT 0xFF Sixteen, Psp)) w3 in
     let r4 : IsReady w4 68 = next_ready w3 67 (data_of_segment PSP_SEGMENT 0xFF Sixteen) Psp r3 (omega arith) (omega arith)
     (fits_data PSP_SEGMENT 0xFF Sixteen (omega arith) (omega arith)) tt in
     (next_ready w4 68 (data_of_segment (environment_of w) 0xFFFF Sixteen) Psp r4 (omega arith) (omega arith)

@@ -1,19 +1,12 @@
 -- The raw switches and their addresses: a sound world leads to a sound one, and nothing changes but the mode and registers.
 use Rattle.std.proofs.Common.{◌≡◌, ◌≢◌, ◌<◌, ℕ, nat_eq, Bool, true, false, arith, refl, subst, sym, Option, None, Some, Ok, Err}
 use Rattle.std.specs.Prelude.{if◌then◌else◌}
-use Rattle.client_world.specs.declared.outcome.Exit.TheVariants.{BadSwitch}
-use Rattle.client_world.specs.declared.registers.Mode.TheVariants.{Real, Protected}
-use Rattle.client_world.specs.declared.registers.Regs.{Regs}
-use Rattle.client_world.specs.declared.registers.Width.{Width}
-use Rattle.client_world.specs.Registers.{low_half}
-use Rattle.client_world.specs.Selector.{client_selector}
-use Rattle.client_world.specs.Services.{by_width}
-use Rattle.client_world.specs.Soundness.{HasSegments, IsSound}
-use Rattle.client_world.specs.World.{World}
-use Rattle.client_world.proofs.SoundWrites.{IsSound-mode, IsSound-regs}
+use Rattle.client_world.specs.{declared.outcome.Exit.TheVariants.{BadSwitch}, declared.registers.Mode.TheVariants.{Real, Protected}}
+use Rattle.client_world.specs.{declared.registers.Regs.{Regs}, declared.registers.Width.{Width}, Registers.{low_half}}
+use Rattle.client_world.specs.{Selector.{client_selector}, Services.{by_width}, Soundness.{HasSegments, IsSound}, World.{World}}
 use Rattle.client_world.specs.declared.services.Carry.TheVariants.{Set}
-use Rattle.service_rows.specs.declared.refusal.Refusal.{Refusal}
-use Rattle.service_rows.specs.Reasons.{family_outcome, first_reason, unsupported}
+use Rattle.client_world.proofs.SoundWrites.{IsSound-mode, IsSound-regs}
+use Rattle.service_rows.specs.{declared.refusal.Refusal.{Refusal}, Reasons.{family_outcome, first_reason, unsupported}}
 use Rattle.service_rows.proofs.WidthLaws.{protected_width}
 use Rattle.mode_gates.specs.Switches.{after_switch, can_switch, gate_function, gate_service, state_addresses, switch_addresses}
 use Rattle.mode_gates.specs.Switches.{world_after_switch_by_width, regs_after_switch, world_after_switch_to_protected}

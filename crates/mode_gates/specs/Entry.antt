@@ -1,26 +1,18 @@
 -- The entry to protected mode. Source: DPMI 0.9, INT 2Fh function 1687h, and "Mode Switching"; the indices of the descriptors, and that a
 -- second call is refused, are own.
 use Rattle.std.specs.Prelude.{ℕ, ◌+◌, ◌*◌, ◌%◌, Bool, true, false, nat_eq, if◌then◌else◌, List, None, Some, Ok, Err, slice_set}
-use Rattle.std.specs.declared.option.Option.{Option}
-use Rattle.std.specs.declared.result.Result.{Result}
-use Rattle.client_world.specs.declared.descriptors.Desc.{Desc}
-use Rattle.client_world.specs.declared.descriptors.Kind.TheVariants.{Code, Data}
-use Rattle.client_world.specs.declared.descriptors.Origin.TheVariants.{Entry, Psp}
-use Rattle.client_world.specs.declared.memory_map.TheConstants.{PARAGRAPH_SIZE, PSP_SEGMENT, SEGMENT_SIZE}
-use Rattle.client_world.specs.declared.outcome.Exit.{Exit}
-use Rattle.client_world.specs.declared.registers.Mode.TheVariants.{Protected}
-use Rattle.client_world.specs.declared.registers.Regs.{Regs}
-use Rattle.client_world.specs.declared.registers.Width.{Width}
-use Rattle.client_world.specs.declared.registers.Width.TheVariants.{Sixteen, ThirtyTwo}
+use Rattle.std.specs.{declared.option.Option.{Option}, declared.result.Result.{Result}}
+use Rattle.client_world.specs.{declared.descriptors.Desc.{Desc}, declared.descriptors.Kind.TheVariants.{Code, Data}}
+use Rattle.client_world.specs.{declared.descriptors.Origin.TheVariants.{Entry, Psp}, declared.memory_map.TheConstants.{PARAGRAPH_SIZE}}
+use Rattle.client_world.specs.{declared.memory_map.TheConstants.{PSP_SEGMENT, SEGMENT_SIZE}, declared.outcome.Exit.{Exit}}
+use Rattle.client_world.specs.{declared.registers.Mode.TheVariants.{Protected}, declared.registers.Regs.{Regs}}
+use Rattle.client_world.specs.{declared.registers.Width.{Width}, declared.registers.Width.TheVariants.{Sixteen, ThirtyTwo}}
 use Rattle.client_world.specs.declared.selectors.TheConstants.{HOST_CODE, HOST_STACKS, ENTRY_CODE, ENTRY_STACK, ENTRY_DATA, ENTRY_PSP}
-use Rattle.client_world.specs.declared.selectors.TheConstants.{ENTRY_ENVIRONMENT}
-use Rattle.client_world.specs.declared.services.Carry.TheVariants.{Clear, Set}
-use Rattle.client_world.specs.Descriptor.{plain}
-use Rattle.client_world.specs.Selector.{Row, selector_of}
-use Rattle.client_world.specs.Services.{Served}
-use Rattle.client_world.specs.Soundness.{host_code, host_stacks, is_wide}
-use Rattle.client_world.specs.World.{World}
+use Rattle.client_world.specs.{declared.selectors.TheConstants.{ENTRY_ENVIRONMENT}, declared.services.Carry.TheVariants.{Clear, Set}}
+use Rattle.client_world.specs.{Descriptor.{plain}, Selector.{Row, selector_of}, Services.{Served}, Soundness.{host_code, host_stacks}}
+use Rattle.client_world.specs.{Soundness.{is_wide}, World.{World}}
 use Rattle.guest_ram.specs.Bytes.{word_of, with_word}
+use Rattle.service_rows.specs.Rows.{with_carry}
 use Rattle.mode_gates.specs.FarFrames.{world_after_far_return}
 
 -- the width that bit 0 of AX asks for
@@ -58,10 +50,6 @@ entry_rows w width =
     (with_row_at ENTRY_STACK (Some (data_of_segment w.regs.ss 0xFFFF width, Entry))
     (with_row_at ENTRY_CODE (Some (code_of_segment w.regs.cs, Entry))
     (host_rows w.descriptors width)))))
-
--- the registers with carry
-abbrev pub with_carry : Bool → Regs → Regs
-with_carry on r = record r { flags = record r.flags { cf = on } }
 
 -- the registers after the entry: the selectors of the descriptors, and SP alone
 unfoldable pub entry_registers : Regs → Regs

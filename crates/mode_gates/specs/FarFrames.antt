@@ -1,14 +1,11 @@
 -- The frame of a far call popped at a trap. Source: 80386 Programmer's Reference Manual, ch. 17, RET; DPMI 0.9, INT 2Fh function 1687h;
 -- that a frame which can't be popped ends the client is own.
 use Rattle.std.specs.declared.result.Result.{Result}
-use Rattle.client_world.specs.declared.outcome.Exit.{Exit}
-use Rattle.client_world.specs.World.{World}
-use Rattle.exec_flow.specs.FarTransfers.{far_frame_pop}
-use Rattle.exec_flow.specs.Interrupts.{frame_bits}
+use Rattle.client_world.specs.{declared.outcome.Exit.{Exit}, World.{World}}
+use Rattle.exec_flow.specs.{FarTransfers.{far_frame_pop}, Interrupts.{frame_bits}}
 use Rattle.host_memory.specs.View.{MachineView}
 use Rattle.insn_plan.specs.Plan.{plan_result, after_plan}
-use Rattle.interrupts.specs.Delivery.{result_of_pop}
-use Rattle.interrupts.specs.Worlds.{on_world}
+use Rattle.interrupts.specs.{Delivery.{result_of_pop}, Worlds.{on_world}}
 
 -- the machine after two items at the stack's top are popped as a far return pops them, of 16 bits in real mode and of the client's width in
 -- protected mode; or the exit

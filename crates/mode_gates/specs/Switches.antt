@@ -1,25 +1,16 @@
 -- The raw mode switches, and the functions that give their addresses. Source: DPMI 0.9, INT 31h functions 0305h and 0306h; the addresses
 -- and the exits are own.
-use Rattle.std.specs.Prelude.{ℕ, ◌-◌, Bool, false, ◌&&◌, nat_eq, if◌then◌else◌, [], None, Some, Ok, Err}
-use Rattle.std.specs.declared.option.Option.{Option}
+use Rattle.std.specs.{Prelude.{ℕ, ◌-◌, Bool, false, ◌&&◌, nat_eq, if◌then◌else◌, [], None, Some, Ok, Err}, declared.option.Option.{Option}}
 use Rattle.std.specs.declared.result.Result.{Result}
-use Rattle.client_world.specs.declared.memory_map.TheConstants.{ROM_SEGMENT, ROM_START}
-use Rattle.client_world.specs.declared.outcome.Exit.{Exit}
-use Rattle.client_world.specs.declared.outcome.Exit.TheVariants.{Stray, BadSwitch}
-use Rattle.client_world.specs.declared.registers.Mode.TheVariants.{Real, Protected}
-use Rattle.client_world.specs.declared.registers.Regs.{Regs}
-use Rattle.client_world.specs.declared.registers.Width.{Width}
-use Rattle.client_world.specs.declared.segments.SegReg.TheVariants.{Es, Cs, Ss, Ds}
-use Rattle.client_world.specs.declared.selectors.TheConstants.{HOST_CODE}
+use Rattle.client_world.specs.{declared.memory_map.TheConstants.{ROM_SEGMENT, ROM_START}, declared.outcome.Exit.{Exit}}
+use Rattle.client_world.specs.{declared.outcome.Exit.TheVariants.{Stray, BadSwitch}, declared.registers.Mode.TheVariants.{Real, Protected}}
+use Rattle.client_world.specs.{declared.registers.Regs.{Regs}, declared.registers.Width.{Width}, declared.segments.SegReg.TheVariants.{Es}}
+use Rattle.client_world.specs.{declared.segments.SegReg.TheVariants.{Cs, Ss, Ds}, declared.selectors.TheConstants.{HOST_CODE}}
 use Rattle.client_world.specs.declared.traps.TheConstants.{PROTECTED_STATE_TRAP, REAL_STATE_TRAP, SWITCH_TO_PROTECTED_TRAP}
-use Rattle.client_world.specs.declared.traps.TheConstants.{SWITCH_TO_REAL_TRAP}
-use Rattle.client_world.specs.Loading.{is_loadable}
-use Rattle.client_world.specs.Registers.{low_half, with_low_half}
-use Rattle.client_world.specs.Selector.{client_selector, selector_of}
-use Rattle.client_world.specs.Services.{Served, by_width}
+use Rattle.client_world.specs.{declared.traps.TheConstants.{SWITCH_TO_REAL_TRAP}, Loading.{is_loadable}, Registers.{low_half}}
+use Rattle.client_world.specs.{Registers.{with_low_half}, Selector.{client_selector, selector_of}, Services.{Served, by_width}}
 use Rattle.client_world.specs.World.{World}
-use Rattle.service_rows.specs.Reasons.{Service, family_outcome, unsupported}
-use Rattle.service_rows.specs.Rows.{with_by_width}
+use Rattle.service_rows.specs.{Reasons.{Service, family_outcome, unsupported}, Rows.{with_by_width}}
 
 -- ---- the switches
 

@@ -2,31 +2,20 @@
 ghost use Rattle.std.specs.Prelude.{◌≡◌, ◌≢◌, ◌+◌, ◌<◌, ◌≤◌, ◌^◌, None, Some, Ok, Err, MatchResult, slice_set};
 ghost use Rattle.client_world.specs.declared.host_frames.TheConstants.{DESCRIPTORS, FIRST_FREE_DESCRIPTOR};
 ghost use Rattle.client_world.specs.declared.registers.Mode.TheVariants.{Real as real};
-ghost use Rattle.client_world.specs.declared.selectors.TheConstants.{ENTRY_ENVIRONMENT as the_environment};
-ghost use Rattle.client_world.specs.Selector.{selector_of};
+ghost use Rattle.client_world.specs.{declared.selectors.TheConstants.{ENTRY_ENVIRONMENT as the_environment}, Selector.{selector_of}};
 ghost use Rattle.client_world.specs.Soundness.{IsPlainOrigin};
 ghost use Rattle.guest_ram.specs.Bytes.{with_word};
-ghost use Rattle.mode_gates.specs.Entry.{
-  asked_width,
-  code_of_segment,
-  data_of_segment,
-  after_first_entry,
-  entry,
-  entry_registers,
-  entry_rows,
-  environment_word,
-  host_rows,
-  with_carry,
-};
-ghost use Rattle.mode_gates.specs.Rows.{AreFreeFrom};
+ghost use Rattle.mode_gates.specs.Entry.{asked_width, code_of_segment, data_of_segment, after_first_entry, entry, entry_registers};
+ghost use Rattle.mode_gates.specs.{Entry.{entry_rows, environment_word, host_rows}, Rows.{AreFreeFrom}};
 
 use crate::far_frames::pop_far;
 use client_world::memory_map::{PARAGRAPH_SIZE, PSP_SEGMENT, SEGMENT_SIZE};
 use client_world::selectors::{
     ENTRY_CODE, ENTRY_DATA, ENTRY_ENVIRONMENT, ENTRY_PSP, ENTRY_STACK, selector_of,
 };
-use client_world::{Carry, Desc, Exit, Flags, Kind, Mode, Origin, Regs, Width};
+use client_world::{Carry, Desc, Exit, Kind, Mode, Origin, Regs, Width};
 use guest_space::Machine;
+use service_rows::with_carry;
 
 // Where the prefix has the segment of the environment.
 const ENVIRONMENT_WORD: u32 = PSP_SEGMENT as u32 * PARAGRAPH_SIZE + 0x2C;
@@ -142,16 +131,6 @@ fn put_environment_selector(m: &mut Machine)
     let sel = selector_of(ENTRY_ENVIRONMENT);
     m.set_dos8(ENVIRONMENT_WORD, (sel % 0x100) as u8);
     m.set_dos8(ENVIRONMENT_WORD + 1, (sel / 0x100) as u8);
-}
-
-/// The registers with carry. Source: own.
-pub fn with_carry(on: bool, r: Regs) -> Regs
-    ensures { result ≡ with_carry on r }
-{
-    Regs {
-        flags: Flags { cf: on, ..r.flags },
-        ..r
-    }
 }
 
 // The registers after the entry.

@@ -1,14 +1,11 @@
 // What holds of every gate. Each is a function with nothing to do: its contract is the law.
 ghost use Rattle.std.specs.Prelude.{◌≡◌, ℕ, Ok};
-ghost use Rattle.client_world.specs.declared.registers.Mode.TheVariants.{Protected as protected};
-ghost use Rattle.client_world.specs.Services.{Served};
-ghost use Rattle.client_world.specs.Soundness.{IsSound};
+ghost use Rattle.client_world.specs.{declared.registers.Mode.TheVariants.{Protected as protected}, Services.{Served}, Soundness.{IsSound}};
 ghost use Rattle.client_world.specs.World.{World};
 ghost use Rattle.interrupts.specs.Worlds.{world_of_result};
 ghost use Rattle.host_memory.specs.View.{MachineView};
-ghost use Rattle.mode_gates.specs.Entry.{entry};
-ghost use Rattle.mode_gates.specs.FarFrames.{after_far_return, world_after_far_return};
-ghost use Rattle.mode_gates.specs.Switches.{gate_service, world_after_switch_to_protected, world_after_switch_to_real};
+ghost use Rattle.mode_gates.specs.{Entry.{entry}, FarFrames.{after_far_return, world_after_far_return}, Switches.{gate_service}};
+ghost use Rattle.mode_gates.specs.Switches.{world_after_switch_to_protected, world_after_switch_to_real};
 
 /// What a far return at a trap makes of the world depends on the world alone.
 #[tactic(auto, using(crate::proofs::FarAlone::far_alone))]

@@ -10,7 +10,7 @@ mod far_frames;
 mod laws;
 mod switches;
 
-pub use entering::{asked_width, entry, with_carry};
+pub use entering::{asked_width, entry};
 pub use far_frames::pop_far;
 pub use laws::{
     a_far_return_changes_registers_alone, a_far_return_depends_on_the_world_alone,

@@ -1,22 +1,12 @@
 // The raw mode switches, and the functions that give their addresses.
 ghost use Rattle.std.specs.Prelude.{◌≡◌, ◌≤◌, ◌<◌, ◌+◌, false, Some, Ok, Err, MatchResult};
-ghost use Rattle.client_world.specs.declared.memory_map.TheConstants.{ROM_START as rom_start};
-ghost use Rattle.client_world.specs.Loading.{is_loadable};
+ghost use Rattle.client_world.specs.{declared.memory_map.TheConstants.{ROM_START as rom_start}, Loading.{is_loadable}};
 ghost use Rattle.client_world.specs.declared.registers.Mode.TheVariants.{Protected as protected, Real as real};
 ghost use Rattle.client_world.specs.declared.services.Carry.TheVariants.{Set as set};
 ghost use Rattle.service_rows.specs.Reasons.{Does};
-ghost use Rattle.mode_gates.specs.FarFrames.{world_after_far_return};
-ghost use Rattle.mode_gates.specs.Switches.{
-  address_regs,
-  can_switch,
-  gate_function,
-  gate_service,
-  state_addresses,
-  switch_addresses,
-  regs_after_switch,
-  world_after_switch_to_protected,
-  world_after_switch_to_real,
-};
+ghost use Rattle.mode_gates.specs.{FarFrames.{world_after_far_return}, Switches.{address_regs, can_switch, gate_function, gate_service}};
+ghost use Rattle.mode_gates.specs.Switches.{state_addresses, switch_addresses, regs_after_switch, world_after_switch_to_protected};
+ghost use Rattle.mode_gates.specs.Switches.{world_after_switch_to_real};
 
 use crate::far_frames::pop_far;
 use crate::laws::a_far_return_changes_registers_alone;

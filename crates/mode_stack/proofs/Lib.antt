@@ -1,2 +1,3 @@
+pub mod LastRecord
 pub mod PutRuns
 pub mod Trips

@@ -1,21 +1,14 @@
 -- Runs of bytes that are put one after the other into zeros.
 use Rattle.std.proofs.Common.{◌≡◌, ℕ, ◌+◌, ◌-◌, ◌<◌, ◌≤◌, inl, inr, Bool, false, List, [], ◌++◌, length, replicate, take, drop, refl, ap}
-use Rattle.std.proofs.Common.{◌∙◌, sym, arith, length-append}
-use borrow.Rule.Slice.PartMut.{put_mid}
-use Rattle.std.proofs.lemmas.Bool.{cases_lt}
-use Rattle.std.proofs.lemmas.Grind.{same_number_lists}
+use Rattle.std.proofs.{Common.{◌∙◌, sym, arith, length-append}, lemmas.Bool.{cases_lt}, lemmas.Grind.{same_number_lists}}
 use Rattle.std.proofs.lemmas.List.{get_or_append_left, get_or-append_right, drop-drop}
-use Rattle.client_world.specs.declared.calls.Call.{Call}
-use Rattle.client_world.specs.declared.calls.Record.{Record}
-use Rattle.client_world.specs.declared.calls.Record.TheVariants.{Sim, Back, Exc}
-use Rattle.client_world.specs.declared.registers.Regs.{Regs}
-use Rattle.client_world.specs.declared.segments.FarPtr.{FarPtr}
+use borrow.Rule.Slice.PartMut.{put_mid}
+use Rattle.client_world.specs.{declared.calls.Call.{Call}, declared.calls.Record.{Record}, declared.calls.Record.TheVariants.{Sim, Back}}
+use Rattle.client_world.specs.{declared.calls.Record.TheVariants.{Exc}, declared.registers.Regs.{Regs}, declared.segments.FarPtr.{FarPtr}}
 use Rattle.client_world.specs.Segments.{null_pointer}
 use Rattle.host_memory.specs.Records.{call_kind, call_number, record_bytes, record_head, regs_bytes}
-use Rattle.guest_ram.specs.Bytes.{put}
-use Rattle.guest_ram.specs.Listed.{zeros}
-use Rattle.guest_ram.proofs.ListedLaws.{length-zeros, at_zeros}
-use Rattle.guest_ram.proofs.PutLaws.{length-put, put_is, put_below, put_within, put_above}
+use Rattle.guest_ram.specs.{Bytes.{put}, Listed.{zeros}}
+use Rattle.guest_ram.proofs.{ListedLaws.{length-zeros, at_zeros}, PutLaws.{length-put, put_is, put_below, put_within, put_above}}
 
 pub put_mid_is : (b : List ℕ) (at k : ℕ) (part xs : List ℕ) → part ≡ xs → k ≡ length xs → at + length xs ≤ length b →
     put_mid at k b part ≡ put b at xs

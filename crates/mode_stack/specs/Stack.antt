@@ -1,15 +1,10 @@
 -- The records of the calls that haven't returned, as a stack: the last one is the innermost. Source: own.
-use Rattle.std.specs.Prelude.{◌≡◌, ◌-◌, ◌<◌, MatchResult}
-use Rattle.std.specs.List.{slice_get}
-use Rattle.std.specs.declared.option.Option.{Option}
+use Rattle.std.specs.{Prelude.{◌≡◌, ◌-◌, ◌<◌, MatchResult}, List.{slice_get}, declared.option.Option.{Option}}
 use Rattle.std.specs.declared.result.Result.{Result}
-use Rattle.client_world.specs.declared.calls.Deep.{Deep}
-use Rattle.client_world.specs.declared.calls.Record.{Record}
-use Rattle.client_world.specs.declared.limits.TheConstants.{GREATEST_DEPTH}
+use Rattle.client_world.specs.{declared.calls.Deep.{Deep}, declared.calls.Record.{Record}, declared.limits.TheConstants.{GREATEST_DEPTH}}
 use Rattle.client_world.specs.World.{World, depth}
 use Rattle.guest_space.specs.Records.{with_record, without_record}
-use Rattle.host_memory.specs.Records.{record_bytes}
-use Rattle.host_memory.specs.View.{MachineView}
+use Rattle.host_memory.specs.{Records.{record_bytes}, View.{MachineView}}
 
 -- the innermost record, if there is one
 abbrev pub top : World → Option Record

@@ -1,8 +1,7 @@
 // Where frames lie on the host's stacks of protected mode.
 ghost use Rattle.std.specs.Prelude.{◌≡◌, ◌≤◌, ◌<◌};
 ghost use Rattle.client_world.specs.declared.limits.TheConstants.{GREATEST_DEPTH};
-ghost use Rattle.client_world.specs.declared.memory_map.TheConstants.{PROTECTED_STACK_SIZE};
-ghost use Rattle.client_world.specs.World.{depth};
+ghost use Rattle.client_world.specs.{declared.memory_map.TheConstants.{PROTECTED_STACK_SIZE}, World.{depth}};
 ghost use Rattle.mode_stack.specs.Frames.{frame_address};
 
 use crate::stack::depth;

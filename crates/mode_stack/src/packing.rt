@@ -2,8 +2,7 @@
 ghost use Rattle.std.specs.Prelude.{◌≡◌, ◌≤◌, ◌+◌, length};
 ghost use Rattle.guest_ram.specs.Bytes.{put};
 ghost use Rattle.host_memory.specs.Records.{call_kind, call_number, call_of, record_at, record_bytes, record_head, record_size, regs_at};
-ghost use Rattle.host_memory.specs.Records.{regs_bytes};
-ghost use Rattle.host_memory.specs.Vectors.{pointer_at};
+ghost use Rattle.host_memory.specs.{Records.{regs_bytes}, Vectors.{pointer_at}};
 
 use client_world::host_frames::RECORD_SIZE;
 use client_world::{Call, FarPtr, Flags, Record, Regs};

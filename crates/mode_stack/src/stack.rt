@@ -1,8 +1,6 @@
 // The records of the calls that haven't returned, as a stack.
 ghost use Rattle.std.specs.Prelude.{◌≡◌, ◌≢◌, ◌≤◌, ◌<◌, None};
-ghost use Rattle.client_world.specs.declared.limits.TheConstants.{GREATEST_DEPTH};
-ghost use Rattle.client_world.specs.World.{depth};
-ghost use Rattle.client_world.specs.declared.calls.Record.{Record};
+ghost use Rattle.client_world.specs.{declared.limits.TheConstants.{GREATEST_DEPTH}, World.{depth}, declared.calls.Record.{Record}};
 ghost use Rattle.host_memory.specs.Records.{record_at, record_bytes};
 ghost use Rattle.mode_stack.specs.Stack.{Pushes, after_pop, top};
 

@@ -1,6 +1,5 @@
 -- A word of the file.
-use Rattle.std.proofs.Common.{◌≡◌, ℕ, List, drop, add-zero, arith}
-use Rattle.std.proofs.lemmas.List.{get_or-drop}
+use Rattle.std.proofs.{Common.{◌≡◌, ℕ, List, drop, add-zero, arith}, lemmas.List.{get_or-drop}}
 use Rattle.byteorder.specs.Endian.{little_number}
 use Rattle.guest_ram.specs.Bytes.{word_of}
 

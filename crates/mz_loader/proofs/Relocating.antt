@@ -1,8 +1,7 @@
 -- Relocations one after the other: the next of those that are left, and none.
-use Rattle.std.proofs.Common.{◌≡◌, ℕ, suc, ◌+◌, ◌-◌, ◌*◌, ◌<◌, ◌≤◌, Bool, true, false, ◌||◌, nat_lt, List, refl, ap, ◌∙◌, sym, arith}
-use Rattle.std.proofs.lemmas.Bool.{lt-ltb, le-ltb, ltb-false}
-use Rattle.mz_loader.specs.Refusal.{relocation_target, some_beyond}
-use Rattle.mz_loader.specs.Start.{after_relocation, after_relocations}
+use Rattle.std.proofs.Common.{◌≡◌, ℕ, suc, ◌+◌, ◌-◌, ◌*◌, ◌<◌, ◌≤◌, true, false, nat_lt, List, refl, ap, ◌∙◌, sym, arith}
+use Rattle.std.proofs.lemmas.Bool.{lt-ltb, le-ltb, ltb-false, or_parts}
+use Rattle.mz_loader.specs.{Refusal.{relocation_target, some_beyond}, Start.{after_relocation, after_relocations}}
 
 more_left : (n i : ℕ) → i < n → n - i ≡ suc (n - (i + 1))
 more_left n i h = omega arith
@@ -38,10 +37,6 @@ pub none_beyond : (file : List ℕ) (limit at n : ℕ) → n ≡ 0 → some_beyo
 unfolding some_beyond
 none_beyond file limit at n h = ap (λ (k : ℕ). some_beyond file limit at k) h
 
-or_left : (a b : Bool) → (a || b) ≡ false → a ≡ false
-or_left true b h = h
-or_left false b h = refl
-
 -- where none of those left names a word beyond the limit, the next one doesn't
 pub within_limit : (file : List ℕ) (limit at n i : ℕ) → i < n → some_beyond file limit (at + 4 * i) (n - i) ≡ false →
     relocation_target file (at + 4 * i) + 2 ≤ limit
@@ -50,7 +45,7 @@ within_limit file limit at n i h none =
     let here : some_beyond file limit (at + 4 * i) (suc (n - (i + 1))) ≡ false
     = ap (λ (k : ℕ). some_beyond file limit (at + 4 * i) k) (sym (more_left n i h)) ∙ none in
     ltb-false limit (relocation_target file (at + 4 * i) + 2)
-    (or_left (nat_lt limit (relocation_target file (at + 4 * i) + 2)) (some_beyond file limit (at + 4 * i + 4) (n - (i + 1))) here)
+    (or_parts (nat_lt limit (relocation_target file (at + 4 * i) + 2)) (some_beyond file limit (at + 4 * i + 4) (n - (i + 1))) here).0
 
 -- the next one made
 pub all_relocated_next : (file : List ℕ) (at n i : ℕ) (dos : List ℕ) → i < n →

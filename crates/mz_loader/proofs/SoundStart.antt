@@ -1,58 +1,25 @@
 -- A client starts in a sound world.
-use Rattle.std.proofs.Common.{◌≡◌, ℕ, zero, suc, ◌+◌, ◌-◌, ◌*◌, ◌/◌, ◌%◌, ◌<◌, ◌≤◌, inl, inr, List, [], ◌∷◌, length, slice_index, slice_set}
-use Rattle.std.proofs.Common.{refl, arith, nat_eq, nat_lt, min, if◌then◌else◌, ◌&&◌, ◌||◌, Bool, true, false, Option, None, Some}
-use Rattle.std.proofs.lemmas.Bool.{cases_lt, eqb-true, eqb-false, ltb-true, ltb-false, false≢true}
-use Rattle.std.proofs.lemmas.List.{get_or_past}
-use Rattle.client_world.specs.declared.dos_memory.DosEntry.{DosEntry}
-use Rattle.client_world.specs.declared.dos_memory.DosState.TheVariants.{Free, Used}
+use Rattle.std.proofs.Common.{◌≡◌, ℕ, zero, suc, ◌+◌, ◌-◌, ◌*◌, ◌/◌, ◌%◌, ◌≤◌, inl, inr, List, [], ◌∷◌, length, slice_index, slice_set}
+use Rattle.std.proofs.Common.{refl, arith, nat_eq, nat_lt, min, if◌then◌else◌, ◌&&◌, Bool, true, false, Option, None, Some}
+use Rattle.std.proofs.{lemmas.Bool.{cases_lt, eqb-true, eqb-false, ltb-false, false≢true, or_parts}, lemmas.List.{get_or_past}}
+use Rattle.client_world.specs.{declared.dos_memory.DosEntry.{DosEntry}, declared.dos_memory.DosState.TheVariants.{Free, Used}}
 use Rattle.client_world.specs.declared.memory_map.TheConstants.{ARENA_START, ARENA_END, PARAGRAPH_SIZE, PSP_SEGMENT, ROM_START}
-use Rattle.client_world.specs.declared.memory_map.TheConstants.{IMAGE_SEGMENT, IMAGE_START}
-use Rattle.client_world.specs.declared.outcome.LoadFault.{LoadFault}
-use Rattle.client_world.specs.DosMemory.{IsArena}
-use Rattle.client_world.specs.Soundness.{IsSound, SoundMegabyte}
+use Rattle.client_world.specs.{declared.memory_map.TheConstants.{IMAGE_SEGMENT, IMAGE_START}, declared.outcome.LoadFault.{LoadFault}}
+use Rattle.client_world.specs.{DosMemory.{IsArena}, Soundness.{IsSound, SoundMegabyte}}
 use Rattle.client_world.proofs.SoundWrites.{IsSound-dos, IsSound-regs, SoundMegabyte-set}
-use Rattle.guest_ram.specs.Bytes.{AreBytes, word_of, put}
-use Rattle.guest_ram.specs.Listed.{listed}
-use Rattle.guest_ram.proofs.ListedLaws.{length-listed, at_listed}
+use Rattle.guest_ram.specs.{Bytes.{AreBytes, word_of, put}, Listed.{listed}}
+use Rattle.guest_ram.proofs.{ListedLaws.{length-listed, at_listed}, ByteLists.{bytes_word, more_bytes}, FitLaws.{fits_at}}
 use Rattle.guest_space.specs.Arena.{with_replaced_entries, NoneMade, with_entries}
 use Rattle.guest_space.proofs.ArenaWrites.{IsSound-entries}
-use Rattle.host_memory.specs.Blank.{blank_arena, blank_world}
-use Rattle.host_memory.specs.Vectors.{word_bytes}
+use Rattle.host_memory.specs.{Blank.{blank_arena, blank_world}, Vectors.{word_bytes}}
 use Rattle.host_memory.proofs.BlankSound.{blank_is_sound}
 use Rattle.mz_loader.specs.Header.{relocations, relocation_table, header_length, image_length, minimum, maximum, block_paras, most_paras}
-use Rattle.mz_loader.specs.Header.{psp_paras}
-use Rattle.mz_loader.specs.Refusal.{is_short, lacks_signature, has_bad_pages, has_bad_table, has_no_room, has_bad_target, relocation_target}
-use Rattle.mz_loader.specs.Refusal.{some_beyond, refusal}
-use Rattle.mz_loader.specs.Start.{start_blocks, environment_paras, environment, environment_segment, psp_front, psp_environment}
-use Rattle.mz_loader.specs.Start.{psp_command, psp_address, with_psp, image, after_relocation, after_relocations, with_program, start_regs}
-use Rattle.mz_loader.specs.Start.{world_at_start}
+use Rattle.mz_loader.specs.{Header.{psp_paras}, Refusal.{is_short, lacks_signature, has_bad_pages, has_bad_table, has_no_room}}
+use Rattle.mz_loader.specs.{Refusal.{has_bad_target, relocation_target, some_beyond, refusal}, Start.{start_blocks, environment_paras}}
+use Rattle.mz_loader.specs.Start.{environment, environment_segment, psp_front, psp_environment, psp_command, psp_address, with_psp, image}
+use Rattle.mz_loader.specs.Start.{after_relocation, after_relocations, with_program, start_regs, world_at_start}
 
 -- ---- bytes
-
-more_bytes : (x : ℕ) (xs : List ℕ) → x < 0x100 → AreBytes xs → AreBytes (x ∷ xs)
-more_bytes x xs small rest zero = small
-more_bytes x xs small rest (suc at) = rest at
-
-abbrev are_small : List ℕ → Bool
-are_small [] = true
-are_small (x ∷ xs) = nat_lt x 0x100 && are_small xs
-
-and_left : (a b : Bool) → (a && b) ≡ true → a ≡ true
-and_left true b h = refl
-and_left false b h = h
-
-and_right : (a b : Bool) → (a && b) ≡ true → b ≡ true
-and_right true b h = h
-and_right false b h = cc
-
-small_bytes : (xs : List ℕ) → are_small xs ≡ true → AreBytes xs
-small_bytes [] h = λ at. omega arith
-small_bytes (x ∷ xs) h =
-    more_bytes x xs (ltb-true x 0x100 (and_left (nat_lt x 0x100) (are_small xs) h))
-    (small_bytes xs (and_right (nat_lt x 0x100) (are_small xs) h))
-
-bytes_word : (v : ℕ) → v < 0x10000 → AreBytes (word_bytes v)
-bytes_word v small = more_bytes (v % 0x100) (v / 0x100 ∷ []) (omega arith) (more_bytes (v / 0x100) [] (omega arith) (small_bytes [] refl))
 
 bytes_image : (file : List ℕ) → AreBytes file → AreBytes (image file)
 unfolding image
@@ -123,12 +90,12 @@ sound_psp paras dos few s =
     sound_put _ (psp_address + 0x80) psp_command
     (sound_put _ (psp_address + 0x2C) psp_environment
     (sound_put _ psp_address (psp_front paras)
-    (sound_put dos (PARAGRAPH_SIZE * environment_segment) environment s (omega arith) (small_bytes environment refl))
+    (sound_put dos (PARAGRAPH_SIZE * environment_segment) environment s (omega arith) (fits_at environment refl))
     (omega arith)
     (more_bytes 0xCD (0x20 ∷ word_bytes (PSP_SEGMENT + paras)) (omega arith)
     (more_bytes 0x20 (word_bytes (PSP_SEGMENT + paras)) (omega arith) (bytes_word (PSP_SEGMENT + paras) (omega arith)))))
-    (omega arith) (small_bytes psp_environment refl))
-    (omega arith) (small_bytes psp_command refl)
+    (omega arith) (fits_at psp_environment refl))
+    (omega arith) (fits_at psp_command refl)
 
 -- ---- the program
 
@@ -143,14 +110,6 @@ sound_relocated dos target paras s few within =
     let v = (word_of dos (IMAGE_START + target) + IMAGE_SEGMENT) % 0x10000 in
     sound_put dos (IMAGE_START + target) (word_bytes v) s (omega arith) (bytes_word v (omega arith))
 
-or_left : (a b : Bool) → (a || b) ≡ false → a ≡ false
-or_left true b h = h
-or_left false b h = refl
-
-or_right : (a b : Bool) → (a || b) ≡ false → b ≡ false
-or_right true b h = cc
-or_right false b h = h
-
 sound_all_relocated : (file : List ℕ) (paras at n : ℕ) (dos : List ℕ) → SoundMegabyte dos → paras ≤ most_paras →
     some_beyond file (PARAGRAPH_SIZE * (paras - psp_paras)) at n ≡ false → SoundMegabyte (after_relocations file at n dos)
 unfolding after_relocations some_beyond
@@ -158,10 +117,9 @@ sound_all_relocated file paras at zero dos s few none = s
 sound_all_relocated file paras at (suc n) dos s few none =
     let limit = PARAGRAPH_SIZE * (paras - psp_paras) in
     let target = relocation_target file at in
-    let here = or_left (nat_lt limit (target + 2)) (some_beyond file limit (at + 4) n) none in
-    let left = or_right (nat_lt limit (target + 2)) (some_beyond file limit (at + 4) n) none in
+    let parts = or_parts (nat_lt limit (target + 2)) (some_beyond file limit (at + 4) n) none in
     sound_all_relocated file paras (at + 4) n (after_relocation dos target)
-    (sound_relocated dos target paras s few (ltb-false limit (target + 2) here)) few left
+    (sound_relocated dos target paras s few (ltb-false limit (target + 2) parts.0)) few parts.1
 
 length-image : (file : List ℕ) → length (image file) ≡ image_length file
 unfolding image

@@ -1,11 +1,9 @@
 -- Why a file isn't loaded: the first of these reasons. Source: own.
 use Rattle.std.specs.Prelude.{ℕ, zero, suc, ◌+◌, ◌-◌, ◌*◌, ◌%◌, Bool, false, not, ◌&&◌, ◌||◌, nat_eq, nat_lt, nat_le, if◌then◌else◌, List}
-use Rattle.std.specs.Prelude.{length, slice_index, Some, None}
-use Rattle.std.specs.declared.option.Option.{Option}
+use Rattle.std.specs.{Prelude.{length, slice_index, Some, None}, declared.option.Option.{Option}}
 use Rattle.client_world.specs.declared.memory_map.TheConstants.{PARAGRAPH_SIZE, PSP_SEGMENT, IMAGE_SEGMENT}
-use Rattle.client_world.specs.declared.outcome.LoadFault.{LoadFault}
-use Rattle.client_world.specs.declared.outcome.LoadFault.TheVariants.{ShortHeader, Signature, LastPage, RelocTable, NoRoom, RelocTarget}
-use Rattle.client_world.specs.declared.outcome.LoadFault.TheVariants.{EntryOutside}
+use Rattle.client_world.specs.{declared.outcome.LoadFault.{LoadFault}, declared.outcome.LoadFault.TheVariants.{ShortHeader, Signature}}
+use Rattle.client_world.specs.declared.outcome.LoadFault.TheVariants.{LastPage, RelocTable, NoRoom, RelocTarget, EntryOutside}
 use Rattle.guest_ram.specs.Bytes.{word_of}
 use Rattle.mz_loader.specs.Header.{last_page, pages, relocations, relocation_table, header_length, page_bytes, declared_length}
 use Rattle.mz_loader.specs.Header.{needed_paras, most_paras, block_paras, psp_paras}

@@ -1,13 +1,9 @@
 -- The world in which a client starts. Source: MS-DOS program segment prefix and environment; what they hold is own.
 use Rattle.std.specs.Prelude.{ℕ, zero, suc, ◌+◌, ◌-◌, ◌*◌, ◌%◌, nat_eq, if◌then◌else◌, List, [], ◌∷◌, slice_index}
-use Rattle.client_world.specs.declared.dos_memory.DosEntry.{DosEntry}
-use Rattle.client_world.specs.declared.dos_memory.DosState.TheVariants.{Free, Used}
+use Rattle.client_world.specs.{declared.dos_memory.DosEntry.{DosEntry}, declared.dos_memory.DosState.TheVariants.{Free, Used}}
 use Rattle.client_world.specs.declared.memory_map.TheConstants.{ARENA_START, ARENA_END, PARAGRAPH_SIZE, PSP_SEGMENT, IMAGE_SEGMENT}
-use Rattle.client_world.specs.declared.memory_map.TheConstants.{IMAGE_START}
-use Rattle.client_world.specs.declared.registers.Regs.{Regs}
-use Rattle.client_world.specs.World.{World}
-use Rattle.guest_ram.specs.Bytes.{word_of, put}
-use Rattle.guest_ram.specs.Listed.{listed}
+use Rattle.client_world.specs.{declared.memory_map.TheConstants.{IMAGE_START}, declared.registers.Regs.{Regs}, World.{World}}
+use Rattle.guest_ram.specs.{Bytes.{word_of, put}, Listed.{listed}}
 use Rattle.guest_space.specs.Arena.{with_entries}
 use Rattle.host_memory.specs.Vectors.{word_bytes}
 use Rattle.mz_loader.specs.Header.{relocations, relocation_table, header_length, image_length, block_paras, most_paras}

@@ -2,8 +2,7 @@
 ghost use Rattle.std.specs.Prelude.{◌≡◌, ◌≤◌};
 ghost use Rattle.guest_space.specs.Arena.{with_entries};
 ghost use Rattle.host_memory.specs.Blank.{blank_world};
-ghost use Rattle.mz_loader.specs.Header.{most_paras};
-ghost use Rattle.mz_loader.specs.Start.{start_blocks};
+ghost use Rattle.mz_loader.specs.{Header.{most_paras}, Start.{start_blocks}};
 
 use crate::header::MOST_PARAS;
 use arrayvec::ArrayVec;

@@ -1,11 +1,8 @@
 // The image.
 ghost use Rattle.std.specs.Prelude.{◌≡◌, ◌+◌, ◌≤◌, length, slice_index, false};
 ghost use Rattle.client_world.specs.declared.memory_map.TheConstants.{IMAGE_START};
-ghost use Rattle.guest_ram.specs.Bytes.{put};
-ghost use Rattle.guest_ram.specs.Listed.{listed};
-ghost use Rattle.mz_loader.specs.declared.header.TheConstants.{MOST_BYTES};
-ghost use Rattle.mz_loader.specs.Refusal.{header_bytes, has_no_room};
-ghost use Rattle.mz_loader.specs.Start.{image};
+ghost use Rattle.guest_ram.specs.{Bytes.{put}, Listed.{listed}};
+ghost use Rattle.mz_loader.specs.{declared.header.TheConstants.{MOST_BYTES}, Refusal.{header_bytes, has_no_room}, Start.{image}};
 
 use crate::header::{header_length, image_length};
 use client_world::memory_map::IMAGE_START;

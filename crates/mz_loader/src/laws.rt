@@ -3,8 +3,7 @@ ghost use Rattle.std.specs.Prelude.{◌≡◌, ℕ, List, None};
 ghost use Rattle.client_world.specs.Soundness.{IsSound};
 ghost use Rattle.guest_ram.specs.Bytes.{AreBytes};
 ghost use Rattle.host_memory.specs.Blank.{blank_world};
-ghost use Rattle.mz_loader.specs.Refusal.{refusal};
-ghost use Rattle.mz_loader.specs.Start.{world_at_start};
+ghost use Rattle.mz_loader.specs.{Refusal.{refusal}, Start.{world_at_start}};
 
 /// The client of a file that is loaded starts in a sound world. Source: own.
 pub fn every_start_is_sound()

@@ -1,8 +1,7 @@
 // Loading a client.
 ghost use Rattle.std.specs.Prelude.{◌≡◌, ◌≤◌, length, false, OnOk, IfErr, Some, None};
 ghost use Rattle.host_memory.specs.Blank.{blank_world};
-ghost use Rattle.mz_loader.specs.Refusal.{header_bytes, has_bad_table, has_bad_target, has_no_room, refusal};
-ghost use Rattle.mz_loader.specs.Start.{world_at_start};
+ghost use Rattle.mz_loader.specs.{Refusal.{header_bytes, has_bad_table, has_bad_target, has_no_room, refusal}, Start.{world_at_start}};
 
 use crate::blocks::make_blocks;
 use crate::header::block_paras;

@@ -2,8 +2,8 @@
 ghost use Rattle.std.specs.Prelude.{◌≡◌, ◌+◌, ◌*◌, ◌≤◌};
 ghost use Rattle.client_world.specs.declared.memory_map.TheConstants.{PARAGRAPH_SIZE};
 ghost use Rattle.guest_ram.specs.Bytes.{put};
-ghost use Rattle.mz_loader.specs.Header.{most_paras};
-ghost use Rattle.mz_loader.specs.Start.{environment, environment_segment, psp_address, psp_front, psp_environment, psp_command, with_psp};
+ghost use Rattle.mz_loader.specs.{Header.{most_paras}, Start.{environment, environment_segment, psp_address, psp_front, psp_environment}};
+ghost use Rattle.mz_loader.specs.Start.{psp_command, with_psp};
 
 use crate::blocks::ENVIRONMENT_SEGMENT;
 use crate::writing::write_run;

@@ -1,11 +1,9 @@
 // Why a file isn't loaded.
 ghost use Rattle.std.specs.Prelude.{◌≡◌, ◌+◌, ◌-◌, ◌*◌, ◌≤◌, length, false, IfNone};
 ghost use Rattle.client_world.specs.declared.memory_map.TheConstants.{PARAGRAPH_SIZE};
-ghost use Rattle.mz_loader.specs.Header.{block_paras, psp_paras};
-ghost use Rattle.mz_loader.specs.declared.header.TheConstants.{MOST_BYTES};
-ghost use Rattle.mz_loader.specs.Refusal.{header_bytes, is_short, lacks_signature, has_bad_pages, has_bad_table, has_no_room};
-ghost use Rattle.mz_loader.specs.Refusal.{relocation_target, some_beyond, has_bad_target, first_segment, entry_address, has_bad_entry};
-ghost use Rattle.mz_loader.specs.Refusal.{refusal};
+ghost use Rattle.mz_loader.specs.{Header.{block_paras, psp_paras}, declared.header.TheConstants.{MOST_BYTES}, Refusal.{header_bytes}};
+ghost use Rattle.mz_loader.specs.Refusal.{is_short, lacks_signature, has_bad_pages, has_bad_table, has_no_room, relocation_target};
+ghost use Rattle.mz_loader.specs.Refusal.{some_beyond, has_bad_target, first_segment, entry_address, has_bad_entry, refusal};
 
 use crate::header::{
     HEADER_BYTES, MOST_PARAS, PAGE_BYTES, PSP_PARAS, block_paras, declared_length, header_length,

@@ -1,7 +1,6 @@
 // The registers with which a client starts.
 ghost use Rattle.std.specs.Prelude.{◌≡◌, ◌≤◌, length};
-ghost use Rattle.mz_loader.specs.Refusal.{header_bytes};
-ghost use Rattle.mz_loader.specs.Start.{start_regs};
+ghost use Rattle.mz_loader.specs.{Refusal.{header_bytes}, Start.{start_regs}};
 
 use crate::header::word_of;
 use crate::reasons::first_segment;

@@ -1,7 +1,6 @@
 // The relocations.
 ghost use Rattle.std.specs.Prelude.{◌≡◌, ◌+◌, ◌*◌, ◌≤◌, length, false};
-ghost use Rattle.mz_loader.specs.Header.{relocations, relocation_table};
-ghost use Rattle.mz_loader.specs.declared.header.TheConstants.{MOST_BYTES};
+ghost use Rattle.mz_loader.specs.{Header.{relocations, relocation_table}, declared.header.TheConstants.{MOST_BYTES}};
 ghost use Rattle.mz_loader.specs.Refusal.{header_bytes, has_bad_table, has_bad_target, has_no_room, some_beyond};
 ghost use Rattle.mz_loader.specs.Start.{after_relocation, after_relocations, with_program};
 

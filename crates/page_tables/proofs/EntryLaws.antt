@@ -1,9 +1,7 @@
 -- The bits of a page's entry, and where an access through it ends.
 use Rattle.std.proofs.Common.{◌≡◌, ℕ, Bool, true, false, nat_eq, refl, ap, arith}
 use Rattle.client_world.specs.Registers.{has_bit}
-use Rattle.page_tables.specs.Entry.{page_entry}
-use Rattle.page_tables.specs.Walk.{walk_end, fault, frame_of}
-use Rattle.page_tables.specs.Mapping.{ended_in_frame}
+use Rattle.page_tables.specs.{Entry.{page_entry}, Walk.{walk_end, fault, frame_of}, Mapping.{ended_in_frame}}
 use Rattle.page_tables.specs.declared.entry.TheConstants.{PRESENT, USER, WRITABLE}
 
 is_one : (n : ℕ) → n ≡ 1 → nat_eq n 1 ≡ true

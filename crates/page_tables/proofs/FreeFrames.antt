@@ -1,7 +1,6 @@
 -- The list of free frames as its first frame is taken, as a frame is put before it, and as the frames of others are written.
 use Rattle.std.proofs.Common.{◌≡◌, ◌≢◌, ◌↔◌, ◌⊎◌, inl, inr, ℕ, zero, suc, ◌<◌, List, [], ◌∷◌, length, slice_index, slice_index_or, Contains}
-use Rattle.std.proofs.Common.{refl, ap, ◌∙◌, sym, subst, arith}
-use Rattle.std.proofs.lemmas.List.{get_or_default}
+use Rattle.std.proofs.{Common.{refl, ap, ◌∙◌, sym, subst, arith}, lemmas.List.{get_or_default}}
 use Rattle.page_tables.specs.FreeList.{IsChain, ListsFree}
 
 -- ---- members of a list

@@ -4,11 +4,9 @@ use Rattle.std.proofs.lemmas.Bool.{cases_eq}
 use Rattle.client_world.specs.declared.host_frames.TheConstants.{PAGE_SIZE, BUDGET_FRAMES}
 use Rattle.guest_ram.specs.Bytes.{dword_bytes, put}
 use Rattle.guest_ram.proofs.PutLaws.{length-put, put_away, dword_put, dword_put_other}
-use Rattle.page_tables.specs.Budget.{AllFree, HasBudget, IsBudgetFrame, taken_place}
-use Rattle.page_tables.specs.FreeList.{HasFreeList, IsFreeFrame, ListsFree, first_free, next_free}
-use Rattle.page_tables.specs.declared.budget.TheConstants.{FREE_LIST_HEAD}
-use Rattle.page_tables.proofs.FreeFrames.{more_of_free, same_free}
-use Rattle.page_tables.proofs.FreeWrites.{place_inside}
+use Rattle.page_tables.specs.{Budget.{AllFree, HasBudget, IsBudgetFrame, taken_place}, FreeList.{HasFreeList, IsFreeFrame, ListsFree}}
+use Rattle.page_tables.specs.{FreeList.{first_free, next_free}, declared.budget.TheConstants.{FREE_LIST_HEAD}}
+use Rattle.page_tables.proofs.{FreeFrames.{more_of_free, same_free}, FreeWrites.{place_inside}}
 
 -- the frames from one on
 pub record IsBetween (from to frame : ℕ) : Type 0 where

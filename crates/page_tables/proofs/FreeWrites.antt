@@ -1,12 +1,11 @@
 -- The writes that take a frame from the list of free frames and give one back, and writes that leave the list.
 use Rattle.std.proofs.Common.{◌≡◌, ◌≢◌, ◌⊎◌, inl, inr, ℕ, ◌+◌, ◌*◌, ◌<◌, ◌≤◌, List, [], ◌∷◌, length, slice_index, slice_set, ap, ◌∙◌, sym}
-use Rattle.std.proofs.Common.{subst, arith, get_or-set_same, get_or-set_other, length-set}
-use Rattle.std.proofs.lemmas.Bool.{cases_eq, cases_lt}
+use Rattle.std.proofs.{Common.{subst, arith, get_or-set_same, get_or-set_other, length-set}, lemmas.Bool.{cases_eq, cases_lt}}
 use Rattle.client_world.specs.declared.host_frames.TheConstants.{PAGE_SIZE, BUDGET_FRAMES}
 use Rattle.guest_ram.specs.Bytes.{dword, dword_bytes, put}
 use Rattle.guest_ram.proofs.PutLaws.{length-put, put_away, dword_put, dword_put_other, same_dword}
-use Rattle.page_tables.specs.Budget.{AllTaken, HasBudget, IsBudgetFrame, IsTaken, taken_place}
-use Rattle.page_tables.specs.FreeList.{HasFreeList, ListsFree, IsFreeFrame, first_free, next_free, with_head, without_head}
+use Rattle.page_tables.specs.{Budget.{AllTaken, HasBudget, IsBudgetFrame, IsTaken, taken_place}, FreeList.{HasFreeList, ListsFree}}
+use Rattle.page_tables.specs.FreeList.{IsFreeFrame, first_free, next_free, with_head, without_head}
 use Rattle.page_tables.specs.declared.budget.TheConstants.{FREE_LIST_HEAD}
 use Rattle.page_tables.proofs.FreeFrames.{first_is_free, more_of_free, none_is_free, rest_of_free, same_free}
 

@@ -1,12 +1,11 @@
 -- The directory of the host is one that `map` and `unmap` may work on.
 use Rattle.std.proofs.Common.{◌≡◌, ◌≢◌, ℕ, ◌+◌, ◌-◌, ◌*◌, ◌/◌, ◌<◌, ◌≤◌, ◌⊎◌, inl, inr, List, length, refl, arith, zero, suc, add-one}
 use Rattle.std.proofs.lemmas.Bool.{cases_eq, cases_lt}
-use Rattle.client_world.specs.declared.memory_map.TheConstants.{HOST_WINDOW}
-use Rattle.client_world.specs.declared.host_frames.TheConstants.{PAGE_SIZE, LOW_TABLE, WINDOW_TABLE, BLOCK_TABLES, BUDGET_FRAMES}
-use Rattle.client_world.specs.declared.host_frames.TheConstants.{BLOCK_TABLE_FRAMES, DESCRIPTOR_ROWS, PAGE_DIRECTORY, TABLE_ENTRIES}
-use Rattle.page_tables.specs.Walk.{frame_of}
-use Rattle.page_tables.specs.Mapping.{HasTables, NamesTable, directory_word}
-use Rattle.page_tables.specs.declared.entry.TheConstants.{TABLE_SPAN, SUPERVISOR_WRITABLE, USER_WRITABLE}
+use Rattle.client_world.specs.{declared.memory_map.TheConstants.{HOST_WINDOW}, declared.host_frames.TheConstants.{PAGE_SIZE, LOW_TABLE}}
+use Rattle.client_world.specs.declared.host_frames.TheConstants.{WINDOW_TABLE, BLOCK_TABLES, BUDGET_FRAMES, BLOCK_TABLE_FRAMES}
+use Rattle.client_world.specs.declared.host_frames.TheConstants.{DESCRIPTOR_ROWS, PAGE_DIRECTORY, TABLE_ENTRIES}
+use Rattle.page_tables.specs.{Walk.{frame_of}, Mapping.{HasTables, NamesTable, directory_word}, declared.entry.TheConstants.{TABLE_SPAN}}
+use Rattle.page_tables.specs.declared.entry.TheConstants.{SUPERVISOR_WRITABLE, USER_WRITABLE}
 use Rattle.page_tables.proofs.BlankTables.{names_none}
 
 -- the index of the directory's entry for the table of the host's window

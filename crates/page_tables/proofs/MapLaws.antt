@@ -1,15 +1,12 @@
 -- A table entry that is put changes the walk of its page alone.
 use Rattle.std.proofs.Common.{◌≡◌, ◌≢◌, ℕ, ◌+◌, ◌/◌, ◌%◌, ◌<◌, ◌≤◌, ◌^◌, ◌⊎◌, inl, inr, List, length, Bool, true, false, refl, ap, ◌∙◌, sym}
-use Rattle.std.proofs.Common.{arith}
-use Rattle.std.proofs.lemmas.Bool.{cases_lt, cases_eq}
-use Rattle.client_world.specs.Registers.{has_bit}
-use Rattle.client_world.specs.declared.host_frames.TheConstants.{PAGE_SIZE, PAGE_DIRECTORY, TABLE_ENTRIES}
+use Rattle.std.proofs.{Common.{arith}, lemmas.Bool.{cases_lt, cases_eq}}
+use Rattle.client_world.specs.{Registers.{has_bit}, declared.host_frames.TheConstants.{PAGE_SIZE, PAGE_DIRECTORY, TABLE_ENTRIES}}
 use Rattle.guest_ram.specs.Bytes.{put, dword, dword_bytes}
 use Rattle.guest_ram.proofs.PutLaws.{length-put, dword_put, dword_put_other}
-use Rattle.page_tables.specs.Entry.{page_entry}
-use Rattle.page_tables.specs.Walk.{walked, walk_end, fault, frame_of, page_of, entry_place, directory_entry, table_place, table_entry}
-use Rattle.page_tables.specs.Mapping.{HasTables, IsCovered, IsMapped, IsUnmapped, directory_word, EndsInFrame, EndsNowhere, KeepsOtherPages}
-use Rattle.page_tables.specs.declared.entry.TheConstants.{PRESENT, TABLE_SPAN}
+use Rattle.page_tables.specs.{Entry.{page_entry}, Walk.{walked, walk_end, fault, frame_of, page_of, entry_place, directory_entry}}
+use Rattle.page_tables.specs.{Walk.{table_place, table_entry}, Mapping.{HasTables, IsCovered, IsMapped, IsUnmapped, directory_word}}
+use Rattle.page_tables.specs.{Mapping.{EndsInFrame, EndsNowhere, KeepsOtherPages}, declared.entry.TheConstants.{PRESENT, TABLE_SPAN}}
 use Rattle.page_tables.proofs.EntryLaws.{page_entry_present, ended-page_entry, ended-absent}
 
 -- the bytes with another table entry of a linear address

@@ -1,13 +1,9 @@
 -- A walk goes on within its page: two addresses of one page meet the same entries.
 use Rattle.std.proofs.Common.{◌≡◌, ℕ, ◌+◌, ◌*◌, ◌/◌, ◌%◌, ◌<◌, ◌≤◌, ◌^◌, inl, inr, Bool, ◌&&◌, ◌||◌, not, List, Ok, refl, ap, ◌∙◌, sym}
-use Rattle.std.proofs.Common.{arith}
-use Rattle.std.proofs.lemmas.Bool.{cases_Bool}
-use Rattle.client_world.specs.Access.{linear}
-use Rattle.client_world.specs.Registers.{has_bit}
-use Rattle.client_world.specs.declared.host_frames.TheConstants.{PAGE_SIZE, TABLE_ENTRIES}
+use Rattle.std.proofs.{Common.{arith}, lemmas.Bool.{cases_Bool}}
+use Rattle.client_world.specs.{Access.{linear}, Registers.{has_bit}, declared.host_frames.TheConstants.{PAGE_SIZE, TABLE_ENTRIES}}
 use Rattle.guest_ram.specs.Bytes.{dword}
-use Rattle.page_tables.specs.Entry.{allows}
-use Rattle.page_tables.specs.Walk.{walked, walk_end, frame_of, page_of, entry_place, directory_entry, table_entry}
+use Rattle.page_tables.specs.{Entry.{allows}, Walk.{walked, walk_end, frame_of, page_of, entry_place, directory_entry, table_entry}}
 use Rattle.page_tables.specs.declared.entry.TheConstants.{PRESENT, TABLE_SPAN}
 
 -- two addresses of one page meet the same entries

@@ -2,8 +2,7 @@
 use Rattle.std.specs.Prelude.{◌≡◌, ◌≢◌, ℕ, ◌+◌, ◌-◌, ◌*◌, ◌<◌, ◌≤◌, ◌^◌, List, length, slice_index}
 use Rattle.client_world.specs.declared.host_frames.TheConstants.{PAGE_SIZE, PAGE_DIRECTORY, TAKEN_FRAMES, BUDGET_FRAMES}
 use Rattle.client_world.specs.declared.limits.TheConstants.{MAX_PAGES}
-use Rattle.page_tables.specs.Walk.{IsFrame, frame_of, table_entry}
-use Rattle.page_tables.specs.Mapping.{IsMapped}
+use Rattle.page_tables.specs.{Walk.{IsFrame, frame_of, table_entry}, Mapping.{IsMapped}}
 
 -- the memory has the frames of the host, and after them a budget that its taken bytes have room for
 pub record HasBudget (bytes : List ℕ) : Type 0 where

@@ -1,8 +1,7 @@
 -- Page entries: a frame times 4096, and bits in the twelve below it.
 -- Source: 80386 Programmer's Reference Manual, ch. 5, "Page-Table Entries", and ch. 6, "Page-Level Protection".
 use Rattle.std.specs.Prelude.{ℕ, ◌+◌, ◌*◌, Bool, ◌&&◌, ◌||◌, not, cond}
-use Rattle.client_world.specs.Registers.{has_bit}
-use Rattle.client_world.specs.declared.host_frames.TheConstants.{PAGE_SIZE}
+use Rattle.client_world.specs.{Registers.{has_bit}, declared.host_frames.TheConstants.{PAGE_SIZE}}
 use Rattle.page_tables.specs.declared.entry.TheConstants.{WRITABLE, USER, USER_WRITABLE, USER_READ_ONLY}
 
 -- whether an entry lets a user read, or write

@@ -3,8 +3,7 @@
 use Rattle.std.specs.Prelude.{◌≡◌, ◌≢◌, ◌↔◌, ◌⊎◌, ℕ, ◌+◌, ◌*◌, ◌<◌, ◌≤◌, List, [], ◌∷◌, length, slice_index, slice_set, Contains}
 use Rattle.client_world.specs.declared.host_frames.TheConstants.{PAGE_SIZE, BUDGET_FRAMES}
 use Rattle.guest_ram.specs.Bytes.{dword, dword_bytes, put}
-use Rattle.page_tables.specs.Budget.{IsBudgetFrame, IsFree, taken_place}
-use Rattle.page_tables.specs.declared.budget.TheConstants.{FREE_LIST_HEAD}
+use Rattle.page_tables.specs.{Budget.{IsBudgetFrame, IsFree, taken_place}, declared.budget.TheConstants.{FREE_LIST_HEAD}}
 
 -- the frames follow one another: `first` is the first of them, `next` what follows each, and 0 follows the last one
 abbrev pub IsChain : (ℕ → ℕ) → ℕ → List ℕ → Type 0

@@ -2,13 +2,11 @@
 -- Source: 80386 Programmer's Reference Manual, ch. 5, "Page Translation"; own.
 use Rattle.std.specs.Prelude.{◌≡◌, ◌≢◌, ℕ, ◌+◌, ◌*◌, ◌%◌, ◌<◌, ◌^◌, Bool, true, false, ◌&&◌, ◌||◌, not, if◌then◌else◌, IsTrue, Result, Ok}
 use Rattle.std.specs.Prelude.{List}
-use Rattle.client_world.specs.Registers.{has_bit}
-use Rattle.client_world.specs.declared.faults.PageFault.{PageFault}
-use Rattle.client_world.specs.declared.host_frames.TheConstants.{PAGE_SIZE, PAGE_DIRECTORY, TABLE_ENTRIES}
+use Rattle.client_world.specs.{Registers.{has_bit}, declared.faults.PageFault.{PageFault}, declared.host_frames.TheConstants.{PAGE_SIZE}}
+use Rattle.client_world.specs.declared.host_frames.TheConstants.{PAGE_DIRECTORY, TABLE_ENTRIES}
 use Rattle.guest_ram.specs.Bytes.{dword}
-use Rattle.page_tables.specs.Entry.{allows}
-use Rattle.page_tables.specs.Walk.{IsFrame, TablesInside, fault, frame_of, page_of, entry_place, directory_entry, table_entry, walked}
-use Rattle.page_tables.specs.declared.entry.TheConstants.{PRESENT}
+use Rattle.page_tables.specs.{Entry.{allows}, Walk.{IsFrame, TablesInside, fault, frame_of, page_of, entry_place, directory_entry}}
+use Rattle.page_tables.specs.{Walk.{table_entry, walked}, declared.entry.TheConstants.{PRESENT}}
 
 -- an entry of the directory
 abbrev pub directory_word : List ℕ → ℕ → ℕ

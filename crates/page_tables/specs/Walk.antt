@@ -2,12 +2,10 @@
 -- Source: 80386 Programmer's Reference Manual, ch. 5, "Page Translation", and ch. 6, "Page-Level Protection".
 use Rattle.std.specs.Prelude.{ℕ, ◌+◌, ◌*◌, ◌/◌, ◌%◌, ◌<◌, ◌≤◌, Bool, true, false, ◌&&◌, ◌||◌, not, if◌then◌else◌, Result, Ok, Err, List}
 use Rattle.std.specs.Prelude.{length}
-use Rattle.client_world.specs.Registers.{has_bit}
-use Rattle.client_world.specs.declared.faults.PageFault.{PageFault}
-use Rattle.client_world.specs.declared.host_frames.TheConstants.{PAGE_SIZE, PAGE_ENTRY_SIZE, TABLE_ENTRIES}
+use Rattle.client_world.specs.{Registers.{has_bit}, declared.faults.PageFault.{PageFault}, declared.host_frames.TheConstants.{PAGE_SIZE}}
+use Rattle.client_world.specs.declared.host_frames.TheConstants.{PAGE_ENTRY_SIZE, TABLE_ENTRIES}
 use Rattle.guest_ram.specs.Bytes.{dword}
-use Rattle.page_tables.specs.Entry.{allows}
-use Rattle.page_tables.specs.declared.entry.TheConstants.{TABLE_SPAN, PRESENT}
+use Rattle.page_tables.specs.{Entry.{allows}, declared.entry.TheConstants.{TABLE_SPAN, PRESENT}}
 
 -- the frame lies inside the memory
 abbrev pub IsFrame : List ℕ → ℕ → Type 0

@@ -3,19 +3,12 @@ ghost use Rattle.std.specs.Prelude.{◌≡◌, ◌↔◌, ◌<◌, IsNone, IfSom
 ghost use Rattle.page_tables.specs.Budget.{HasBudget, IsBudgetFrame, IsFree, IsTaken, AllFree, AllTaken, IsNamedNowhere, taken_place};
 ghost use Rattle.page_tables.specs.FreeList.{HasFreeList, KeepsBesideList, first_free, with_head, without_head};
 
-use client_world::host_frames::{
-    BUDGET_FRAMES, CALLBACK_SIZE, PAGE_SIZE, TAKEN_FRAMES, VECTOR_SIZE, VECTORS,
-};
-use client_world::limits::{CALLBACKS, EXCEPTION_VECTORS, INTERRUPT_VECTORS};
-use client_world::memory_map::DOS_VIEW_PAGES;
+use client_world::host_frames::{BUDGET_FRAMES, FREE_HEAD_START, PAGE_SIZE, TAKEN_FRAMES, VECTORS};
 use guest_ram::Ram;
 
 /// The address of the head of the list of free frames, a doubleword: it follows the vectors, the callbacks and the pageable pages in their
 /// frame. Source: own.
-pub const FREE_LIST_HEAD: u32 = PAGE_SIZE * VECTORS
-    + VECTOR_SIZE * (INTERRUPT_VECTORS + EXCEPTION_VECTORS)
-    + CALLBACK_SIZE * CALLBACKS
-    + DOS_VIEW_PAGES;
+pub const FREE_LIST_HEAD: u32 = PAGE_SIZE * VECTORS + FREE_HEAD_START;
 
 // The address of the taken byte of a frame.
 fn taken_place(ram: &Ram, frame: u32) -> u32

@@ -1,10 +1,10 @@
 // Page entries: a frame, and bits in the twelve below it.
 ghost use Rattle.std.specs.Prelude.{◌≡◌, ◌<◌, ◌+◌, ◌*◌, ◌^◌};
-ghost use Rattle.client_world.specs.Registers.{has_bit};
 ghost use Rattle.client_world.specs.declared.host_frames.TheConstants.{PAGE_SIZE};
 ghost use Rattle.page_tables.specs.Entry.{allows, page_entry};
 
 use client_world::host_frames::{PAGE_SIZE, TABLE_ENTRIES};
+use client_world::is_set;
 
 /// The bytes of linear addresses that a page table covers.
 /// Source: 80386 Programmer's Reference Manual, ch. 5, "Page Translation".
@@ -33,14 +33,6 @@ pub const USER_READ_ONLY: u32 = PRESENT + USER + ACCESSED + DIRTY;
 
 /// The bits of the entry of a page that the supervisor alone may touch: 63h. Source: own.
 pub const SUPERVISOR_WRITABLE: u32 = PRESENT + WRITABLE + ACCESSED + DIRTY;
-
-// Whether the bit of that value is set in an entry.
-pub(crate) fn is_set(entry: u32, bit: u32) -> bool
-    requires { 0 < bit }
-    ensures { result ≡ has_bit entry bit }
-{
-    entry / bit % 2 == 1
-}
 
 // Whether an entry lets a user read, or write.
 pub(crate) fn is_allowed(entry: u32, write: bool) -> bool

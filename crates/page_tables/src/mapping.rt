@@ -2,9 +2,8 @@
 ghost use Rattle.std.specs.Prelude.{◌≡◌, length};
 ghost use Rattle.client_world.specs.declared.host_frames.TheConstants.{PAGE_DIRECTORY};
 ghost use Rattle.guest_ram.specs.Bytes.{put, dword_bytes};
-ghost use Rattle.page_tables.specs.Entry.{page_entry};
-ghost use Rattle.page_tables.specs.Walk.{IsFrame, frame_of, table_entry, table_place};
-ghost use Rattle.page_tables.specs.Mapping.{HasTables, IsCovered, IsUnmapped, IsMapped, EndsInFrame, EndsNowhere, KeepsOtherPages};
+ghost use Rattle.page_tables.specs.{Entry.{page_entry}, Walk.{IsFrame, frame_of, table_entry, table_place}, Mapping.{HasTables, IsCovered}};
+ghost use Rattle.page_tables.specs.Mapping.{IsUnmapped, IsMapped, EndsInFrame, EndsNowhere, KeepsOtherPages};
 
 use crate::entry::page_entry;
 use crate::translation::table_place;

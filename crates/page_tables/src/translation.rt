@@ -2,9 +2,9 @@
 ghost use Rattle.std.specs.Prelude.{◌≡◌, ◌<◌, ◌+◌, length};
 ghost use Rattle.page_tables.specs.Walk.{IsFrame, TablesInside, walk_end, directory_entry, table_place, walked};
 
-use crate::entry::{PRESENT, TABLE_SPAN, is_allowed, is_set};
-use client_world::PageFault;
+use crate::entry::{PRESENT, TABLE_SPAN, is_allowed};
 use client_world::host_frames::{PAGE_ENTRY_SIZE, PAGE_SIZE, TABLE_ENTRIES};
+use client_world::{PageFault, is_set};
 use guest_ram::Ram;
 
 // Where an access ends that meets these two entries.

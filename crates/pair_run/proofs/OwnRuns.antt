@@ -1,12 +1,9 @@
 -- What the laws of a client say of its own run: it stays once it has ended, its turns are counted, and its console only grows.
 use Rattle.std.proofs.Common.{arith, inl, inr, ◌⊎◌, ◌≡◌, ◌≤◌, ◌+◌, ◌-◌, ◌++◌, ℕ, zero, suc, List, [], None, Some, refl, sym, ◌∙◌, ap, subst}
 use Rattle.std.proofs.Common.{add-zero, add-suc, add-one, append_assoc, append-nil, length, length-append}
-use Rattle.std.specs.Prelude.{IsSome}
-use Rattle.std.specs.declared.option.Option.{Option}
-use Rattle.client_world.specs.declared.outcome.Exit.{Exit}
-use Rattle.client_world.specs.Console.{Extends}
+use Rattle.std.specs.{Prelude.{IsSome}, declared.option.Option.{Option}}
+use Rattle.client_world.specs.{declared.outcome.Exit.{Exit}, Console.{Extends}, WatchWorld.{WatchWorld}}
 use Rattle.pair_run.specs.Run.{closed_by, run_of, turns_of}
-use Rattle.client_world.specs.WatchWorld.{WatchWorld}
 
 -- the laws of a client
 pub record Client (turn : WatchWorld → WatchWorld) (console : WatchWorld → List ℕ) (exit : WatchWorld → Option Exit)

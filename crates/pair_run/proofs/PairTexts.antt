@@ -1,22 +1,15 @@
 -- The loop over the slices: where it is in each run, and what it has written.
-use Rattle.std.proofs.Common.{arith, ◌≡◌, ◌≤◌, ◌<◌, ◌+◌, ◌-◌, ◌*◌, ◌++◌, ◌∷◌, ℕ, zero, suc, List, [], false, Ok, Err, refl, sym, ◌∙◌}
-use Rattle.std.proofs.Common.{ap, subst, add-zero, append_assoc, append-nil, length, drop}
-use Rattle.std.specs.Prelude.{OnErr, min, max, ◌==◌}
-use Rattle.std.specs.declared.option.Option.{Option}
-use Rattle.std.specs.declared.result.Result.{Result}
-use Rattle.std.proofs.Math.Nat.{max-le}
-use Rattle.client_world.specs.declared.outcome.Exit.{Exit}
-use Rattle.dpmi_io.specs.Content.{Shown, Gains, GainsPart}
-use Rattle.dpmi_io.specs.LineEnd.{line_end}
+use Rattle.std.proofs.Common.{arith, ◌≡◌, ◌≤◌, ◌<◌, ◌+◌, ◌-◌, ◌*◌, ◌++◌, ◌∷◌, ℕ, zero, suc, List, [], false, Ok, Err, refl, sym, ◌∙◌, ap}
+use Rattle.std.proofs.{Common.{subst, add-zero, append_assoc, append-nil, length, drop}, Math.Nat.{max-le}}
+use Rattle.std.specs.{Prelude.{OnErr, min, max, ◌==◌}, declared.option.Option.{Option}, declared.result.Result.{Result}}
+use Rattle.client_world.specs.{declared.outcome.Exit.{Exit}, WatchWorld.{WatchWorld}}
+use Rattle.dpmi_io.specs.{Content.{Shown, Gains, GainsPart}, LineEnd.{line_end}}
 use Rattle.dpmi_io.proofs.Output.{gained-none, gains_then, part_then, part_longer}
-use Rattle.pair_run.specs.declared.lines.Letter.{Letter}
-use Rattle.pair_run.specs.declared.lines.Letter.TheVariants.{A, B}
-use Rattle.pair_run.specs.Run.{turns_of}
-use Rattle.pair_run.specs.Slices.{OwnRun, SliceLine, own_run, gain, slices, line_if_any, slice_line, both_lines, lines_up_to, pair_lines}
+use Rattle.pair_run.specs.{declared.lines.Letter.{Letter}, declared.lines.Letter.TheVariants.{A, B}, Run.{turns_of}, Slices.{OwnRun}}
+use Rattle.pair_run.specs.Slices.{SliceLine, own_run, gain, slices, line_if_any, slice_line, both_lines, lines_up_to, pair_lines}
 use Rattle.pair_run.specs.Slices.{slice_head, lines_text}
-use Rattle.client_world.specs.WatchWorld.{WatchWorld}
-use Rattle.pair_run.proofs.OwnRuns.{Client, few_turns, turns_add}
-use Rattle.pair_run.proofs.SliceTexts.{lines_next, lines_none, next_start, no_line, not_fewer, silent, text_append}
+use Rattle.pair_run.proofs.{OwnRuns.{Client, few_turns, turns_add}, SliceTexts.{lines_next, lines_none, next_start, no_line, not_fewer}}
+use Rattle.pair_run.proofs.SliceTexts.{silent, text_append}
 
 -- slice k begins after `done` turns of a run that is cut at its bound
 abbrev pub Begins : ℕ → ℕ → ℕ → ℕ → Type 0

@@ -1,19 +1,13 @@
 -- The slices of a run, and the lines of two clients that make theirs in turns.
 use Rattle.std.proofs.Common.{arith, inl, inr, ◌⊎◌, ◌≡◌, ◌≤◌, ◌<◌, ◌+◌, ◌-◌, ◌*◌, ◌/◌, ◌++◌, ◌∷◌, ℕ, zero, suc, List, [], None, Some, false}
 use Rattle.std.proofs.Common.{refl, sym, ◌∙◌, ap, subst, add-zero, add-suc, add-one, append_assoc, append-nil, length, drop}
-use Rattle.std.specs.Prelude.{IsSome, min, max}
-use Rattle.std.specs.List.{filter}
-use Rattle.std.specs.declared.option.Option.{Option}
-use Rattle.std.proofs.Math.Nat.{div-lt_iff_lt-mul, eq-or-lt_of_le, le-max_left, le-max_right}
-use Rattle.std.proofs.Math.Seq.{drop-append_seam, drop-length}
+use Rattle.std.proofs.{Math.Nat.{div-lt_iff_lt-mul, eq-or-lt_of_le, le-max_left, le-max_right}, Math.Seq.{drop-append_seam, drop-length}}
 use Rattle.std.proofs.lemmas.List.Elements.{filter-append}
-use Rattle.client_world.specs.declared.outcome.Exit.{Exit}
-use Rattle.pair_run.specs.declared.lines.Letter.{Letter}
-use Rattle.pair_run.specs.declared.lines.Letter.TheVariants.{A, B}
-use Rattle.pair_run.specs.Run.{closed_by, run_of, turns_of}
+use Rattle.std.specs.{Prelude.{IsSome, min, max}, List.{filter}, declared.option.Option.{Option}}
+use Rattle.client_world.specs.{declared.outcome.Exit.{Exit}, WatchWorld.{WatchWorld}}
+use Rattle.pair_run.specs.{declared.lines.Letter.{Letter}, declared.lines.Letter.TheVariants.{A, B}, Run.{closed_by, run_of, turns_of}}
 use Rattle.pair_run.specs.Slices.{OwnRun, SliceLine, own_run, gain, slices, line_if_any, slice_line, both_lines, lines_up_to, own_lines}
 use Rattle.pair_run.specs.Slices.{pair_lines, line_text, lines_text, is_letter, is_of, all_bytes}
-use Rattle.client_world.specs.WatchWorld.{WatchWorld}
 use Rattle.pair_run.proofs.OwnRuns.{Client, few_turns, grown, last_turns, past, turns_add, turns_none}
 
 -- ---- where slices begin and end

@@ -1,8 +1,6 @@
 -- The run of a client that takes turns, on its own. Source: own.
-use Rattle.std.specs.Prelude.{◌≡◌, ℕ, zero, suc, List, [], None, Some}
-use Rattle.std.specs.declared.option.Option.{Option}
-use Rattle.client_world.specs.declared.outcome.Exit.{Exit}
-use Rattle.client_world.specs.WatchWorld.{WatchWorld}
+use Rattle.std.specs.{Prelude.{◌≡◌, ℕ, zero, suc, List, [], None, Some}, declared.option.Option.{Option}}
+use Rattle.client_world.specs.{declared.outcome.Exit.{Exit}, WatchWorld.{WatchWorld}}
 
 -- the world after n turns; a turn leaves a world with an exit, so these are n turns or those up to the exit
 unfoldable pub turns_of : (WatchWorld → WatchWorld) → ℕ → WatchWorld → WatchWorld

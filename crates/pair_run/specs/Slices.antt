@@ -2,9 +2,7 @@
 use Rattle.std.specs.Prelude.{ℕ, zero, suc, ◌+◌, ◌-◌, ◌*◌, ◌/◌, ◌++◌, List, [], ◌∷◌, Bool, true, false, length, drop, min, max, codes}
 use Rattle.std.specs.Fmt.{decimal}
 use Rattle.dpmi_io.specs.LineEnd.{line_end}
-use Rattle.pair_run.specs.declared.lines.Letter.{Letter}
-use Rattle.pair_run.specs.declared.lines.Letter.TheVariants.{A, B}
-use Rattle.pair_run.specs.Run.{turns_of}
+use Rattle.pair_run.specs.{declared.lines.Letter.{Letter}, declared.lines.Letter.TheVariants.{A, B}, Run.{turns_of}}
 use Rattle.client_world.specs.WatchWorld.{WatchWorld}
 
 -- a client's own run, as far as the slices show it: what its console holds after each number of turns, and how many turns there are

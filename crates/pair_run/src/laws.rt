@@ -1,10 +1,7 @@
 // Laws over what two clients write, each of a function with nothing to do: its contract is the law.
-ghost use Rattle.std.specs.Prelude.{◌≡◌, ◌≤◌, ◌<◌, ◌+◌, ◌*◌, ◌++◌, ℕ, [], IsSome};
-ghost use Rattle.std.specs.List.{filter};
-ghost use Rattle.pair_run.specs.declared.lines.Letter.{Letter as ALetter};
-ghost use Rattle.pair_run.specs.declared.lines.Letter.TheVariants.{A, B};
-ghost use Rattle.pair_run.specs.Run.{IsFirst, run_of, turns_of};
-ghost use Rattle.pair_run.specs.Slices.{OwnRun, all_bytes, gain, is_of, own_lines, own_run, pair_lines};
+ghost use Rattle.std.specs.{Prelude.{◌≡◌, ◌≤◌, ◌<◌, ◌+◌, ◌*◌, ◌++◌, ℕ, [], IsSome}, List.{filter}};
+ghost use Rattle.pair_run.specs.{declared.lines.Letter.{Letter as ALetter}, declared.lines.Letter.TheVariants.{A, B}, Run.{IsFirst}};
+ghost use Rattle.pair_run.specs.{Run.{run_of, turns_of}, Slices.{OwnRun, all_bytes, gain, is_of, own_lines, own_run, pair_lines}};
 ghost use Rattle.client_world.specs.WatchWorld.{WatchWorld};
 
 use crate::Turns;

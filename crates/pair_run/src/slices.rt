@@ -2,8 +2,8 @@
 ghost use Rattle.std.specs.Prelude.{◌≡◌, ◌≤◌, ◌<◌, ◌+◌, ℕ, length, drop, is_some, None, IfOk, OnOk, OnErr, IsSome};
 ghost use Rattle.client_world.specs.declared.limits.TheConstants.{MAX_SLICE, MAX_STEPS};
 ghost use Rattle.dpmi_io.specs.Puts.{Puts};
-ghost use Rattle.pair_run.specs.Run.{IsFirst, run_of, turns_of};
-ghost use Rattle.pair_run.specs.Slices.{lines_text, own_run, pair_head, pair_lines, slice_head, slices_text, line_if_any};
+ghost use Rattle.pair_run.specs.{Run.{IsFirst, run_of, turns_of}, Slices.{lines_text, own_run, pair_head, pair_lines, slice_head}};
+ghost use Rattle.pair_run.specs.Slices.{slices_text, line_if_any};
 
 use crate::Turns;
 use crate::lines::{Letter, pair_head, slice_head};

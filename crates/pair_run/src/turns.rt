@@ -1,12 +1,8 @@
 // A client that takes turns.
-ghost use Rattle.std.specs.Prelude.{◌≡◌, ◌≤◌, ◌+◌, ℕ, List, None, Some, IsSome};
-ghost use Rattle.std.specs.declared.option.Option.{Option};
-ghost use Rattle.client_world.specs.declared.limits.TheConstants.{MAX_STEPS};
-ghost use Rattle.client_world.specs.declared.outcome.Exit.{Exit as AnExit};
-ghost use Rattle.client_world.specs.declared.outcome.Exit.TheVariants.{Bound};
-ghost use Rattle.client_world.specs.Console.{Extends};
+ghost use Rattle.std.specs.{Prelude.{◌≡◌, ◌≤◌, ◌+◌, ℕ, List, None, Some, IsSome}, declared.option.Option.{Option}};
+ghost use Rattle.client_world.specs.{declared.limits.TheConstants.{MAX_STEPS}, declared.outcome.Exit.{Exit as AnExit}};
+ghost use Rattle.client_world.specs.{declared.outcome.Exit.TheVariants.{Bound}, Console.{Extends}, WatchWorld.{WatchWorld}};
 ghost use Rattle.pair_run.specs.Run.{turns_of};
-ghost use Rattle.client_world.specs.WatchWorld.{WatchWorld};
 
 use client_world::Exit;
 

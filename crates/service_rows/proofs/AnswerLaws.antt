@@ -1,13 +1,10 @@
 -- What is true of a service is true of what it answers.
 use Rattle.std.proofs.Common.{◌≡◌, refl, ◌∙◌, ap, arith, ℕ, Bool, true, false, List, [], ◌∷◌, if◌then◌else◌, Option, None, Some}
-use Rattle.client_world.specs.declared.services.Carry.TheVariants.{Set}
-use Rattle.client_world.specs.Registers.{low_half, with_low_half}
-use Rattle.client_world.specs.Soundness.{IsSound}
+use Rattle.client_world.specs.{declared.services.Carry.TheVariants.{Set}, Registers.{low_half, with_low_half}, Soundness.{IsSound}}
 use Rattle.client_world.specs.World.{World}
-use Rattle.client_world.proofs.SoundWrites.{IsSound-regs}
-use Rattle.service_rows.specs.declared.refusal.Refusal.{Refusal}
-use Rattle.service_rows.specs.declared.refusal.Refusal.TheVariants.{Unsupported}
-use Rattle.service_rows.specs.Reasons.{HasOtherAx, HasOtherAxAndBx, Service, family_answer, first_reason, refusal_number, service_answer}
+use Rattle.client_world.proofs.SoundWrites.{sound_general}
+use Rattle.service_rows.specs.{declared.refusal.Refusal.{Refusal}, declared.refusal.Refusal.TheVariants.{Unsupported}, Reasons.{HasOtherAx}}
+use Rattle.service_rows.specs.Reasons.{HasOtherAxAndBx, Service, family_answer, first_reason, refusal_number, service_answer}
 use Rattle.service_rows.specs.Rows.{with_ax, with_bx}
 
 pub if_has : (P : Service → Type 0) (b : Bool) (x y : Service) → P x → P y → P (if b then x else y)
@@ -23,14 +20,7 @@ of_answer P (Some r) w after before refused done = refused (refusal_number r)
 
 -- AX may hold anything
 pub sound_ax : (w : World) (n : ℕ) → IsSound w → IsSound (with_ax n w)
-sound_ax w n s = IsSound-regs w (record w.regs { eax = with_low_half w.regs.eax n }) s (record {
-  es = s.segments.es;
-  cs = s.segments.cs;
-  ss = s.segments.ss;
-  ds = s.segments.ds;
-  fs = s.segments.fs;
-  gs = s.segments.gs;
-})
+sound_ax w n s = sound_general w _ w.regs.ebx w.regs.ecx w.regs.edx w.regs.esi w.regs.edi s
 
 -- a refusal changes AX alone
 same_low_half : (x : ℕ) → x ≡ with_low_half x (low_half x)

@@ -1,7 +1,6 @@
 -- The first index that passes a test.
 use Rattle.std.proofs.Common.{◌≡◌, ◌≢◌, ◌≤◌, ◌<◌, ◌+◌, ◌-◌, ℕ, zero, suc, Bool, true, false, inl, inr, refl, sym, ◌∙◌, ap, arith, None}
-use Rattle.std.proofs.Common.{Some}
-use Rattle.std.proofs.lemmas.Bool.{cases_eq, cases_Bool}
+use Rattle.std.proofs.{Common.{Some}, lemmas.Bool.{cases_eq, cases_Bool}}
 use Rattle.service_rows.specs.FirstIndex.{first_index}
 
 passes : (test : ℕ → Bool) (index left : ℕ) → test index ≡ true → first_index test index (suc left) ≡ Some index

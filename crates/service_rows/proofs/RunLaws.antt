@@ -1,14 +1,11 @@
 -- The first free run as a function is the first free run as a relation.
 use Rattle.std.proofs.Common.{◌≡◌, ◌≢◌, ◌≤◌, ◌<◌, ◌+◌, ◌-◌, ◌⊎◌, ◌↔◌, ℕ, zero, suc, true, false, inl, inr, refl, sym, ◌∙◌, ap, arith, List}
-use Rattle.std.proofs.Common.{Option, None, Some, IfSome, IsNone}
+use Rattle.std.proofs.{Common.{Option, None, Some, IfSome, IsNone}, lemmas.Bool.{cases_eq, and_parts, and_from, le-leb, leb-true, eq-eqb}}
+use Rattle.std.proofs.lemmas.Bool.{ne_eqb, cond-true, cond-false, true≢false, false_from_ne_true}
 use Rattle.std.specs.Option.{is_none}
-use Rattle.std.proofs.lemmas.Bool.{cases_eq, and_parts, and_from, le-leb, leb-true, eq-eqb, ne_eqb, cond-true, cond-false, true≢false}
-use Rattle.std.proofs.lemmas.Bool.{false_from_ne_true}
-use Rattle.client_world.specs.declared.host_frames.TheConstants.{DESCRIPTORS, FIRST_FREE_DESCRIPTOR}
-use Rattle.client_world.specs.FreeRuns.{IsFreeRunOf, IsFirstFreeRunOf}
-use Rattle.client_world.specs.Selector.{Row, row_at_index}
-use Rattle.service_rows.specs.FirstIndex.{first_index}
-use Rattle.service_rows.specs.FreeRun.{are_free, is_free_run, first_free_run}
+use Rattle.client_world.specs.{declared.host_frames.TheConstants.{DESCRIPTORS, FIRST_FREE_DESCRIPTOR}, FreeRuns.{IsFreeRunOf}}
+use Rattle.client_world.specs.{FreeRuns.{IsFirstFreeRunOf}, Selector.{Row, row_at_index}}
+use Rattle.service_rows.specs.{FirstIndex.{first_index}, FreeRun.{are_free, is_free_run, first_free_run}}
 use Rattle.service_rows.proofs.IndexLaws.{first_is, is_first, is_missing}
 
 none_of : (row : Row) → is_none row ≡ true → row ≡ None

@@ -1,9 +1,7 @@
 -- In protected mode there is a width.
 use Rattle.std.proofs.Common.{◌≡◌, ◌≢◌, ◌∙◌, sym, Option, None, Some}
-use Rattle.client_world.specs.declared.registers.Mode.TheVariants.{Real, Protected}
-use Rattle.client_world.specs.declared.registers.Width.{Width}
-use Rattle.client_world.specs.Soundness.{IsSound, SoundWidth}
-use Rattle.client_world.specs.World.{World}
+use Rattle.client_world.specs.{declared.registers.Mode.TheVariants.{Real, Protected}, declared.registers.Width.{Width}, Soundness.{IsSound}}
+use Rattle.client_world.specs.{Soundness.{SoundWidth}, World.{World}}
 
 in_protected : (width : Option Width) (w : World) → SoundWidth width w → w.mode ≡ Protected → width ≢ None
 in_protected None w s protected none = apart (sym s.mode ∙ protected)

@@ -1,6 +1,5 @@
 -- The first index that passes a test: a first gap of pages, the lowest free handle. Source: own.
-use Rattle.std.specs.Prelude.{ℕ, zero, suc, ◌+◌, Bool, None, Some, if◌then◌else◌}
-use Rattle.std.specs.declared.option.Option.{Option}
+use Rattle.std.specs.{Prelude.{ℕ, zero, suc, ◌+◌, Bool, None, Some, if◌then◌else◌}, declared.option.Option.{Option}}
 
 -- the first such index of a run, given its first index and its length
 unfoldable pub first_index : (ℕ → Bool) → ℕ → ℕ → Option ℕ

@@ -1,8 +1,7 @@
 -- The first free run as a function. Source: DPMI 0.9, INT 31h function 0000h; that runs are sought from index 64 on is own.
 use Rattle.std.specs.Prelude.{ℕ, zero, suc, ◌+◌, ◌-◌, Bool, true, ◌&&◌, List, None, is_none, nat_eq, nat_le, if◌then◌else◌}
 use Rattle.std.specs.declared.option.Option.{Option}
-use Rattle.client_world.specs.declared.host_frames.TheConstants.{DESCRIPTORS, FIRST_FREE_DESCRIPTOR}
-use Rattle.client_world.specs.Selector.{Row, row_at_index}
+use Rattle.client_world.specs.{declared.host_frames.TheConstants.{DESCRIPTORS, FIRST_FREE_DESCRIPTOR}, Selector.{Row, row_at_index}}
 use Rattle.service_rows.specs.FirstIndex.{first_index}
 
 -- the n rows from an index on are free

@@ -1,17 +1,13 @@
 -- A service of INT 31h with the reasons for which it is refused, and the numbers of the reasons. Source: own.
-use Rattle.std.specs.Prelude.{ℕ, ◌≡◌, Bool, true, List, [], ◌∷◌, None, Some, MatchResult, if◌then◌else◌}
-use Rattle.std.specs.declared.option.Option.{Option}
+use Rattle.std.specs.{Prelude.{ℕ, ◌≡◌, Bool, true, List, [], ◌∷◌, None, Some, MatchResult, if◌then◌else◌}, declared.option.Option.{Option}}
 use Rattle.std.specs.declared.result.Result.{Result}
-use Rattle.client_world.specs.declared.services.Carry.TheVariants.{Clear, Set}
-use Rattle.client_world.specs.Services.{Served}
-use Rattle.client_world.specs.World.{World}
+use Rattle.client_world.specs.{declared.services.Carry.TheVariants.{Clear, Set}, Services.{Served}, World.{World}}
 use Rattle.host_memory.specs.View.{MachineView}
-use Rattle.service_rows.specs.declared.refusal.Refusal.{Refusal}
-use Rattle.service_rows.specs.declared.refusal.Refusal.TheVariants.{Unsupported, DescriptorUnavailable, LinearMemoryUnavailable}
+use Rattle.service_rows.specs.{declared.refusal.Refusal.{Refusal}, declared.refusal.Refusal.TheVariants.{Unsupported}}
+use Rattle.service_rows.specs.declared.refusal.Refusal.TheVariants.{DescriptorUnavailable, LinearMemoryUnavailable}
 use Rattle.service_rows.specs.declared.refusal.Refusal.TheVariants.{PhysicalMemoryUnavailable, CallbackUnavailable, HandleUnavailable}
 use Rattle.service_rows.specs.declared.refusal.Refusal.TheVariants.{InvalidValue, InvalidSelector, InvalidHandle, InvalidCallback}
-use Rattle.service_rows.specs.declared.refusal.Refusal.TheVariants.{InvalidAddress}
-use Rattle.service_rows.specs.Rows.{with_ax, with_bx}
+use Rattle.service_rows.specs.{declared.refusal.Refusal.TheVariants.{InvalidAddress}, Rows.{with_ax, with_bx}}
 
 -- the first reason that applies
 abbrev pub first_reason : List (Refusal × Bool) → Option Refusal

@@ -1,16 +1,10 @@
 -- Words that the services share. Source: own.
-use Rattle.std.specs.Prelude.{ℕ, Bool, true, false, ◌&&◌, nat_eq, None, Some}
-use Rattle.std.specs.declared.option.Option.{Option}
-use Rattle.client_world.specs.declared.descriptors.Desc.{Desc}
-use Rattle.client_world.specs.declared.descriptors.Kind.TheVariants.{Data}
-use Rattle.client_world.specs.declared.registers.Width.{Width}
+use Rattle.std.specs.{Prelude.{ℕ, Bool, true, false, ◌&&◌, nat_eq, slice_set, None, Some}, declared.option.Option.{Option}}
+use Rattle.client_world.specs.{declared.descriptors.Desc.{Desc}, declared.descriptors.Kind.TheVariants.{Data}}
+use Rattle.client_world.specs.{declared.registers.Regs.{Regs}, declared.registers.Width.{Width}}
 use Rattle.client_world.specs.declared.registers.Width.TheVariants.{Sixteen, ThirtyTwo}
-use Rattle.client_world.specs.declared.selectors.TheConstants.{CLIENT_PRIVILEGE}
-use Rattle.client_world.specs.Descriptor.{is_code, plain}
-use Rattle.client_world.specs.Registers.{low_half, with_low_half}
-use Rattle.client_world.specs.Selector.{Row, privilege_of}
-use Rattle.client_world.specs.Services.{desc_of}
-use Rattle.client_world.specs.World.{World}
+use Rattle.client_world.specs.{declared.selectors.TheConstants.{CLIENT_PRIVILEGE}, Descriptor.{is_code, plain}, Registers.{low_half}}
+use Rattle.client_world.specs.{Registers.{with_low_half}, Selector.{Row, privilege_of}, Services.{desc_of}, World.{World}}
 
 -- the world with another AX
 abbrev pub with_ax : ℕ → World → World
@@ -19,6 +13,14 @@ with_ax v w = record w { regs = record w.regs { eax = with_low_half w.regs.eax v
 -- the world with another BX
 abbrev pub with_bx : ℕ → World → World
 with_bx v w = record w { regs = record w.regs { ebx = with_low_half w.regs.ebx v } }
+
+-- the world with another descriptor row at an index
+abbrev pub with_row : ℕ → Row → World → World
+with_row index row w = record w { descriptors = slice_set w.descriptors index row }
+
+-- the registers with carry
+abbrev pub with_carry : Bool → Regs → Regs
+with_carry on r = record r { flags = record r.flags { cf = on } }
 
 -- a register named (E)X with a new value: in its low half for a 16-bit client, in all of it for a 32-bit one
 abbrev pub with_by_width : Option Width → ℕ → ℕ → ℕ

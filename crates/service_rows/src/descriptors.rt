@@ -1,8 +1,7 @@
 // Descriptors that the services make and ask for.
 ghost use Rattle.std.specs.Prelude.{◌≡◌, IfSome};
 ghost use Rattle.client_world.specs.FreeRuns.{IsFirstFreeRunOf};
-ghost use Rattle.service_rows.specs.FreeRun.{first_free_run};
-ghost use Rattle.service_rows.specs.Rows.{data_at, is_code_selector, is_present_code};
+ghost use Rattle.service_rows.specs.{FreeRun.{first_free_run}, Rows.{data_at, is_code_selector, is_present_code}};
 
 use client_world::selectors::{CLIENT_PRIVILEGE, privilege_of};
 use client_world::{Desc, Kind, Origin};

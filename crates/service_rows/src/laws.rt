@@ -1,7 +1,6 @@
 // What holds of every service. The function has nothing to do: its contract is the law.
 ghost use Rattle.std.specs.Prelude.{◌≡◌};
-ghost use Rattle.client_world.specs.declared.services.Carry.TheVariants.{Set as set};
-ghost use Rattle.client_world.specs.World.{World};
+ghost use Rattle.client_world.specs.{declared.services.Carry.TheVariants.{Set as set}, World.{World}};
 ghost use Rattle.service_rows.specs.Reasons.{HasOtherAx, Service, family_outcome, outcome};
 
 /// A service that is refused changes AX alone. Source: own.

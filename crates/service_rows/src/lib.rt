@@ -13,4 +13,4 @@ mod registers;
 pub use descriptors::{data_at, first_free, is_code_selector};
 pub use laws::every_refusal_changes_ax_alone;
 pub use refusal::{Refusal, refuse};
-pub use registers::{es_di, set_ax, set_bx, with_by_width};
+pub use registers::{es_di, set_ax, set_bx, with_by_width, with_carry};

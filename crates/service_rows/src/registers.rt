@@ -1,9 +1,9 @@
-// The registers that services name by the client's width, AX and BX.
+// The registers that services name by the client's width, AX, BX and carry.
 ghost use Rattle.std.specs.Prelude.{◌≡◌};
 ghost use Rattle.client_world.specs.Services.{es_di};
-ghost use Rattle.service_rows.specs.Rows.{with_ax, with_bx, with_by_width};
+ghost use Rattle.service_rows.specs.Rows.{with_ax, with_bx, with_by_width, with_carry};
 
-use client_world::{FarPtr, Width, by_width, low_half, with_low_half};
+use client_world::{FarPtr, Flags, Regs, Width, by_width, low_half, with_low_half};
 use guest_space::Machine;
 
 /// A register with a new value in the part that a client of that width names: the low half for 16 bits, all of it for 32. Source: DPMI 0.9,
@@ -46,4 +46,14 @@ pub fn set_bx(m: &mut Machine, v: u16)
     let mut r = m.regs();
     r.ebx = with_low_half(r.ebx, v);
     m.set_regs(r);
+}
+
+/// The registers with carry. Source: own.
+pub fn with_carry(on: bool, r: Regs) -> Regs
+    ensures { result ≡ with_carry on r }
+{
+    Regs {
+        flags: Flags { cf: on, ..r.flags },
+        ..r
+    }
 }

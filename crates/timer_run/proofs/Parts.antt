@@ -1,13 +1,11 @@
 -- The timer's part of a round: nothing after an exit; else the interrupt, or only the count of one more round.
 use Rattle.std.proofs.Common.{arith, ◌≡◌, ◌≤◌, ◌+◌, Bool, true, false, ◌&&◌, Option, None, Some, Ok, Err, nat_eq, refl}
-use Rattle.std.specs.Prelude.{if◌then◌else◌}
-use Rattle.std.specs.declared.result.Result.{Result}
-use Rattle.client_world.specs.declared.outcome.Exit.{Exit}
-use Rattle.client_world.specs.World.{HostWorld}
+use Rattle.std.specs.{Prelude.{if◌then◌else◌}, declared.result.Result.{Result}}
+use Rattle.client_world.specs.{declared.outcome.Exit.{Exit}, World.{HostWorld}}
 use Rattle.host_run.specs.OtherTurns.{interrupt_turn}
 use Rattle.host_run.proofs.OtherTurns.{interrupt_quiet}
-use Rattle.timer_run.specs.declared.timer.TheConstants.{TIMER_INTERRUPT}
-use Rattle.timer_run.specs.Timer.{TimerPart, TimerState, after_tick, takes_interrupts, with_round_counted, timer_answer, timer_part}
+use Rattle.timer_run.specs.{declared.timer.TheConstants.{TIMER_INTERRUPT}, Timer.{TimerPart, TimerState, after_tick, takes_interrupts}}
+use Rattle.timer_run.specs.Timer.{with_round_counted, timer_answer, timer_part}
 
 -- ---- what each kind of part has, every part has
 

@@ -1,32 +1,18 @@
 -- What rounds keep, count and write. Each is the timer's interrupt, or a turn with watchpoints.
 use Rattle.std.proofs.Common.{arith, ◌≡◌, ◌≢◌, ◌∙◌, ◌+◌, ℕ, zero, suc, Bool, true, false, List, [], ◌∷◌, ◌++◌, length, Option, None, Some}
-use Rattle.std.proofs.Common.{refl}
-use Rattle.std.proofs.Common.{sym, ap, subst}
+use Rattle.std.proofs.{Common.{refl, sym, ap, subst}, lemmas.List.{append-nil, length_push, same_from_push}, lemmas.List.Elements.{All-nil}}
 use Rattle.std.specs.Prelude.{All, IsSome, if◌then◌else◌}
-use Rattle.std.proofs.lemmas.List.{append-nil, length_push, same_from_push}
-use Rattle.std.proofs.lemmas.List.Elements.{All-nil}
-use Rattle.client_world.specs.declared.calls.Record.{Record}
-use Rattle.client_world.specs.declared.outcome.Exit.{Exit}
-use Rattle.client_world.specs.declared.outcome.Exit.TheVariants.{ConsoleFull}
-use Rattle.client_world.specs.Access.{IsHeld}
-use Rattle.client_world.specs.Console.{Extends}
-use Rattle.client_world.specs.Soundness.{IsSound, IsSoundHost}
-use Rattle.client_world.specs.WatchWorld.{WatchWorld, host_without_watches}
-use Rattle.client_world.specs.World.{HostWorld}
-use Rattle.host_run.specs.Keys.{HasKeys}
-use Rattle.host_run.specs.Nested.{IsHandedOver, PushesRecord, Stacked, kept, popped, pushed}
-use Rattle.host_run.specs.OtherTurns.{interrupt_turn}
+use Rattle.client_world.specs.{declared.calls.Record.{Record}, declared.outcome.Exit.{Exit}}
+use Rattle.client_world.specs.{declared.outcome.Exit.TheVariants.{ConsoleFull}, Access.{IsHeld}, Console.{Extends}, Soundness.{IsSound}}
+use Rattle.client_world.specs.{Soundness.{IsSoundHost}, WatchWorld.{WatchWorld, host_without_watches}, World.{HostWorld}}
+use Rattle.host_run.specs.{Keys.{HasKeys}, Nested.{IsHandedOver, PushesRecord, Stacked, kept, popped, pushed}, OtherTurns.{interrupt_turn}}
 use Rattle.host_run.specs.RealCalls.{InterruptSource, from_anywhere, from_client, from_outside}
-use Rattle.host_run.proofs.OtherTurns.{bounded_sound, host_sound, interrupt_keeps, interrupt_quiet, reached}
-use Rattle.host_run.proofs.Sound.{leaves_itself, machine_by, outside_by}
-use Rattle.host_run.proofs.TurnLaws.{IsReached, LeavesBy}
-use Rattle.timer_run.specs.declared.timer.TheConstants.{TIMER_INTERRUPT}
-use Rattle.timer_run.specs.Rounds.{TimedWorld, after_part, is_interrupt, round_with_timer, rounds, source_of_round, timed_rounds, timed_run}
-use Rattle.timer_run.specs.Rounds.{timed_turns, timer_of, touched_by_round, with_new_timer}
-use Rattle.timer_run.specs.Timer.{TimerPart, TimerState, timer_part}
-use Rattle.timer_run.proofs.Parts.{part_has}
-use Rattle.timer_run.proofs.RoundParts.{round_on, round_over}
-use Rattle.timer_run.proofs.Runs.{one_more}
+use Rattle.host_run.proofs.{OtherTurns.{bounded_sound, host_sound, interrupt_keeps, interrupt_quiet, reached}, Sound.{leaves_itself}}
+use Rattle.host_run.proofs.{Sound.{machine_by, outside_by}, TurnLaws.{IsReached, LeavesBy}}
+use Rattle.timer_run.specs.{declared.timer.TheConstants.{TIMER_INTERRUPT}, Rounds.{TimedWorld, after_part, is_interrupt, round_with_timer}}
+use Rattle.timer_run.specs.Rounds.{rounds, source_of_round, timed_rounds, timed_run, timed_turns, timer_of, touched_by_round}
+use Rattle.timer_run.specs.{Rounds.{with_new_timer}, Timer.{TimerPart, TimerState, timer_part}}
+use Rattle.timer_run.proofs.{Parts.{part_has}, RoundParts.{round_on, round_over}, Runs.{one_more}}
 use Rattle.watch_run.specs.Turn.{touched_by_watch_turn, turn_with_watchpoints}
 use Rattle.watch_run.proofs.WatchedTurns.{counts, extends, turn_keeps_all}
 

@@ -1,12 +1,10 @@
 -- The round that is made, by what the timer's part returns.
 use Rattle.std.proofs.Common.{◌≡◌, ◌∙◌, ℕ, Bool, true, false, List, Option, None, Some, Ok, Err, ap, subst, sym}
 use Rattle.std.specs.Prelude.{if◌then◌else◌}
-use Rattle.client_world.specs.declared.outcome.Exit.{Exit}
-use Rattle.client_world.specs.WatchWorld.{WatchWorld}
-use Rattle.client_world.specs.World.{HostWorld}
+use Rattle.client_world.specs.{declared.outcome.Exit.{Exit}, WatchWorld.{WatchWorld}, World.{HostWorld}}
 use Rattle.host_run.specs.Footprint.{ChangesOnly, Footprint}
-use Rattle.timer_run.specs.Rounds.{TimedWorld, after_part, round_footprint, round_with_timer, timed, timer_of}
-use Rattle.timer_run.specs.Timer.{TimerPart, TimerState, timer_answer, timer_footprint, timer_part}
+use Rattle.timer_run.specs.{Rounds.{TimedWorld, after_part, round_footprint, round_with_timer, timed, timer_of}, Timer.{TimerPart}}
+use Rattle.timer_run.specs.Timer.{TimerState, timer_answer, timer_footprint, timer_part}
 use Rattle.timer_run.proofs.Parts.{answered_exit, answered_on, part_ended, part_passed, part_was_on}
 use Rattle.watch_run.specs.Turn.{turn_with_watchpoints, watch_footprint}
 

@@ -1,9 +1,8 @@
 -- A run: how it starts, one round after another, and how it ends.
-use Rattle.std.proofs.Common.{arith, ◌≡◌, ◌∙◌, ◌≤◌, ◌<◌, ◌+◌, ◌-◌, ℕ, zero, suc, false, Some, refl, sym, ap, subst, add-zero}
-use Rattle.std.proofs.Common.{add-suc, add-one}
+use Rattle.std.proofs.Common.{arith, ◌≡◌, ◌∙◌, ◌≤◌, ◌<◌, ◌+◌, ◌-◌, ℕ, zero, suc, false, Some, refl, sym, ap, subst, add-zero, add-suc}
+use Rattle.std.proofs.Common.{add-one}
 use Rattle.std.specs.Prelude.{IsSome}
-use Rattle.client_world.specs.declared.outcome.Exit.{Exit}
-use Rattle.client_world.specs.WatchWorld.{WatchWorld, Watching, no_watches, host_without_watches}
+use Rattle.client_world.specs.{declared.outcome.Exit.{Exit}, WatchWorld.{WatchWorld, Watching, no_watches, host_without_watches}}
 use Rattle.client_world.specs.World.{HostWorld}
 use Rattle.host_run.specs.Run.{with_bound_exit}
 use Rattle.host_run.proofs.Runs.{bounded_ended, exit_of}

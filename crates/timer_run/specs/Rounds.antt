@@ -1,15 +1,9 @@
 -- Rounds of a run with a timer. Each is the timer's part, and a turn with watchpoints where that part wasn't the whole round. Source: own.
-use Rattle.std.specs.Prelude.{ℕ, zero, suc, Bool, false, List, [], if◌then◌else◌, None, Some}
-use Rattle.std.specs.declared.result.Result.{Result}
-use Rattle.client_world.specs.declared.outcome.Exit.{Exit}
-use Rattle.client_world.specs.declared.place.Place.{Place}
-use Rattle.client_world.specs.WatchWorld.{WatchWorld, Watching, host_without_watches}
-use Rattle.client_world.specs.World.{HostWorld}
-use Rattle.host_run.specs.Footprint.{Footprint}
-use Rattle.host_run.specs.MakesTurn.{MakesTurn}
-use Rattle.host_run.specs.RealCalls.{InterruptSource, from_client, from_outside}
-use Rattle.host_run.specs.Run.{with_bound_exit}
-use Rattle.host_run.specs.View.{HostView}
+use Rattle.std.specs.{Prelude.{ℕ, zero, suc, Bool, false, List, [], if◌then◌else◌, None, Some}, declared.result.Result.{Result}}
+use Rattle.client_world.specs.{declared.outcome.Exit.{Exit}, declared.place.Place.{Place}, WatchWorld.{WatchWorld, Watching}}
+use Rattle.client_world.specs.{WatchWorld.{host_without_watches}, World.{HostWorld}}
+use Rattle.host_run.specs.{Footprint.{Footprint}, MakesTurn.{MakesTurn}, RealCalls.{InterruptSource, from_client, from_outside}}
+use Rattle.host_run.specs.{Run.{with_bound_exit}, View.{HostView}}
 use Rattle.timer_run.specs.Timer.{TimerPart, TimerState, timer_footprint, timer_part}
 use Rattle.watch_run.specs.Turn.{touched_by_watch_turn, turn_with_watchpoints, watch_footprint}
 

@@ -1,12 +1,9 @@
 -- The timer, and its part of a round. Source: own.
 use Rattle.std.specs.Prelude.{ℕ, ◌+◌, Bool, true, false, ◌&&◌, nat_eq, nat_lt, if◌then◌else◌, None, Some, Ok, Err}
 use Rattle.std.specs.declared.result.Result.{Result}
-use Rattle.client_world.specs.declared.limits.TheConstants.{GREATEST_DEPTH}
-use Rattle.client_world.specs.declared.outcome.Exit.{Exit}
-use Rattle.client_world.specs.declared.registers.Mode.TheVariants.{Real, Protected}
-use Rattle.client_world.specs.World.{World, HostWorld, depth}
-use Rattle.host_run.specs.Footprint.{Footprint}
-use Rattle.host_run.specs.OtherTurns.{interrupt_turn, outside_interrupt_footprint}
+use Rattle.client_world.specs.{declared.limits.TheConstants.{GREATEST_DEPTH}, declared.outcome.Exit.{Exit}}
+use Rattle.client_world.specs.{declared.registers.Mode.TheVariants.{Real, Protected}, World.{World, HostWorld, depth}}
+use Rattle.host_run.specs.{Footprint.{Footprint}, OtherTurns.{interrupt_turn, outside_interrupt_footprint}}
 use Rattle.timer_run.specs.declared.timer.TheConstants.{TIMER_INTERRUPT}
 
 -- a timer: after how many rounds its interrupt becomes due, how many of these have passed, and whether an interrupt waits

@@ -1,18 +1,11 @@
 // What holds of every round and of every run with a timer. Each is a function with nothing to do: its contract is the law.
 ghost use Rattle.std.specs.Prelude.{◌≡◌, ◌≢◌, ◌+◌, ℕ, All, IsSome, None, Some, false, true};
-ghost use Rattle.client_world.specs.declared.outcome.Exit.{Exit as AnExit};
-ghost use Rattle.client_world.specs.declared.outcome.Exit.TheVariants.{ConsoleFull};
-ghost use Rattle.client_world.specs.Access.{IsHeld};
-ghost use Rattle.client_world.specs.Console.{Extends};
-ghost use Rattle.client_world.specs.Soundness.{IsSound, IsSoundHost};
-ghost use Rattle.client_world.specs.World.{HostWorld};
-ghost use Rattle.host_run.specs.HandOver.{HandsOver};
-ghost use Rattle.host_run.specs.Keys.{HasKeys};
-ghost use Rattle.host_run.specs.Nested.{IsHandedOver, Stacked};
-ghost use Rattle.host_run.specs.RealCalls.{from_anywhere, from_client, from_outside};
-ghost use Rattle.timer_run.specs.Rounds.{TimedWorld, is_interrupt, round_with_timer, source_of_round, timed_rounds, timed_run};
-ghost use Rattle.timer_run.specs.Rounds.{timed_turns, touched_by_round};
-ghost use Rattle.timer_run.specs.Timer.{TimerState as ATimer, timer_part};
+ghost use Rattle.client_world.specs.{declared.outcome.Exit.{Exit as AnExit}, declared.outcome.Exit.TheVariants.{ConsoleFull}};
+ghost use Rattle.client_world.specs.{Access.{IsHeld}, Console.{Extends}, Soundness.{IsSound, IsSoundHost}, World.{HostWorld}};
+ghost use Rattle.host_run.specs.{HandOver.{HandsOver}, Keys.{HasKeys}, Nested.{IsHandedOver, Stacked}, RealCalls.{from_anywhere}};
+ghost use Rattle.host_run.specs.RealCalls.{from_client, from_outside};
+ghost use Rattle.timer_run.specs.Rounds.{TimedWorld, is_interrupt, round_with_timer, source_of_round, timed_rounds, timed_run, timed_turns};
+ghost use Rattle.timer_run.specs.{Rounds.{touched_by_round}, Timer.{TimerState as ATimer, timer_part}};
 
 use host_run::every_nested_call_hands_over;
 use watch_run::every_touch_of_a_watched_turn_is_held;

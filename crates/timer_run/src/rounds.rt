@@ -1,9 +1,7 @@
 // Rounds of a run with a timer, and runs.
 ghost use Rattle.std.specs.Prelude.{◌≡◌, ◌≤◌, ◌<◌, ◌+◌, None, Some};
 ghost use Rattle.client_world.specs.declared.limits.TheConstants.{GREATEST_TIMER, MAX_STEPS};
-ghost use Rattle.host_run.specs.MakesTurn.{AnswersBy, turn_answer};
-ghost use Rattle.host_run.specs.View.{machine_view};
-ghost use Rattle.host_run.specs.Windows.{HasWindow};
+ghost use Rattle.host_run.specs.{MakesTurn.{AnswersBy, turn_answer}, View.{machine_view}, Windows.{HasWindow}};
 ghost use Rattle.timer_run.specs.Rounds.{MakesRound, timed_run};
 
 use crate::timer::Timer;
@@ -12,8 +10,9 @@ use guest_space::CodeWindow;
 use host_run::{Ended, Host};
 use watch_run::{Watches, next_watched_turn};
 
-// The round of a client that has not ended, with a window of code that rounds hand on.
-fn next_round(
+/// The round of a client that has not ended, with a window of code that rounds hand on. It answers only whether the run has ended.
+/// Source: own.
+pub fn next_round(
     host: &mut Host,
     watches: &mut Watches,
     timer: &mut Timer,

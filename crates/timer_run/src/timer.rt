@@ -1,8 +1,7 @@
 // The timer.
 ghost use Rattle.std.specs.Prelude.{◌≡◌, ◌≢◌, ◌≤◌, ◌<◌, true, false, None, Ok};
 ghost use Rattle.client_world.specs.declared.limits.TheConstants.{GREATEST_DEPTH, GREATEST_TIMER, MAX_STEPS};
-ghost use Rattle.client_world.specs.declared.registers.Mode.TheVariants.{Protected as protected};
-ghost use Rattle.client_world.specs.World.{depth};
+ghost use Rattle.client_world.specs.{declared.registers.Mode.TheVariants.{Protected as protected}, World.{depth}};
 ghost use Rattle.host_run.specs.Footprint.{ChangesOnly};
 ghost use Rattle.timer_run.specs.Timer.{TimerState, takes_interrupts, timer_answer, timer_footprint, timer_part, with_round_counted};
 

@@ -1,20 +1,16 @@
 -- A call that isn't refused, a reflection that is made: what was asked holds, and the world after it.
-use Rattle.std.proofs.Common.{◌≡◌, ℕ, ◌<◌, ◌≤◌, Bool, true, false, not, [], ◌∷◌, length, refl, Option, None, Some, Ok, Err, arith}
+use Rattle.std.proofs.Common.{◌≡◌, ℕ, ◌<◌, ◌≤◌, Bool, true, false, [], ◌∷◌, length, refl, Option, None, Some, Ok, Err, arith}
+use Rattle.std.proofs.lemmas.Bool.{leb-false, ltb-false, not-false}
 use Rattle.std.specs.Prelude.{nat_le, if◌then◌else◌}
-use Rattle.std.proofs.lemmas.Bool.{leb-false, ltb-false}
-use Rattle.client_world.specs.declared.calls.Call.{Call}
-use Rattle.client_world.specs.declared.limits.TheConstants.{GREATEST_DEPTH, MAX_CALL_WORDS}
-use Rattle.client_world.specs.declared.outcome.Exit.TheVariants as exits
-use Rattle.client_world.specs.declared.registers.Regs.{Regs}
-use Rattle.client_world.specs.declared.services.Carry.TheVariants.{Clear, Set}
-use Rattle.client_world.specs.Services.{cx, es_di}
+use Rattle.client_world.specs.{declared.calls.Call.{Call}, declared.limits.TheConstants.{GREATEST_DEPTH, MAX_CALL_WORDS}}
+use Rattle.client_world.specs.{declared.registers.Regs.{Regs}, declared.services.Carry.TheVariants.{Clear, Set}, Services.{cx, es_di}}
 use Rattle.client_world.specs.World.{World, depth}
-use Rattle.service_rows.specs.declared.refusal.Refusal.{Refusal}
-use Rattle.service_rows.specs.Reasons.{HasOtherAx, first_reason, outcome, service_answer}
+use Rattle.service_rows.specs.{declared.refusal.Refusal.{Refusal}, Reasons.{HasOtherAx, first_reason, outcome, service_answer}}
 use Rattle.service_rows.proofs.AnswerLaws.{refused_answer}
 use Rattle.translation.specs.SimulatedCall.{after_reflection, are_readable_words, begin_call, call_regs, call_service, call_words}
-use Rattle.translation.specs.SimulatedCall.{called_world, has_stack, reflect}
-use Rattle.translation.specs.Structure.{has_structure, structure_bytes, structure_flags, structure_regs}
+use Rattle.translation.specs.{SimulatedCall.{called_world, has_stack, reflect}, Structure.{has_structure, structure_bytes, structure_flags}}
+use Rattle.translation.specs.Structure.{structure_regs}
+use Rattle.client_world.specs.declared.outcome.Exit.TheVariants as exits
 
 none_refused : (o : Option Refusal) (w u : World) → (service_answer o w u).carry ≡ Clear → o ≡ None
 none_refused None w u e = refl
@@ -33,10 +29,6 @@ none_of_five p q r s t false false false true e h = absurd cc
 none_of_five p q r s t false false false false true h = absurd cc
 none_of_five p q r s t false false false false false h = (refl, refl, refl, refl, refl)
 
-not_not : (b : Bool) → not b ≡ false → b ≡ true
-not_not true e = refl
-not_not false e = absurd cc
-
 -- a call that runs
 pub record Runs (w : World) (call : Call) (r : Regs) (image : ℕ) : Type 0 where
   pub few : cx w ≤ MAX_CALL_WORDS
@@ -47,7 +39,7 @@ pub record Runs (w : World) (call : Call) (r : Regs) (image : ℕ) : Type 0 wher
 
 runs_by : (w : World) (call : Call) (r : Regs) (image : ℕ) → first_reason (call_service w call r image).reasons ≡ None → Runs w call r image
 unfolding call_service
-runs_by w call r image e = grind (arith, leb-false, ltb-false, none_of_five, not_not)
+runs_by w call r image e = grind (arith, leb-false, ltb-false, none_of_five, not-false)
 
 world_after : (w : World) (call : Call) (r : Regs) (image : ℕ) → (outcome (call_service w call r image) w).carry ≡ Clear →
     (outcome (call_service w call r image) w).world ≡ called_world w call r image (call_words w call image)

@@ -1,25 +1,18 @@
 -- What a call and a reflection hand over.
-use Rattle.std.proofs.Common.{◌≡◌, ℕ, zero, suc, ◌+◌, ◌<◌, ◌≤◌, Bool, true, false, List, length, refl, ap, sym, subst, arith, Ok}
-use Rattle.std.specs.Prelude.{cond}
+use Rattle.std.proofs.Common.{◌≡◌, ℕ, zero, suc, ◌+◌, ◌<◌, ◌≤◌, true, List, length, refl, ap, sym, subst, arith, Ok}
 use Rattle.std.proofs.lemmas.List.{length-append}
-use Rattle.client_world.specs.declared.calls.Call.{Call}
-use Rattle.client_world.specs.declared.calls.Call.TheVariants.{Int, Far, Iret, Reflect}
+use Rattle.client_world.specs.{declared.calls.Call.{Call}, declared.calls.Call.TheVariants.{Int, Far, Iret, Reflect}}
 use Rattle.client_world.specs.declared.limits.TheConstants.{GREATEST_DEPTH, MAX_CALL_WORDS}
-use Rattle.client_world.specs.declared.memory_map.TheConstants.{REAL_STACK_SEGMENT}
-use Rattle.client_world.specs.declared.registers.Flags.{Flags}
-use Rattle.client_world.specs.declared.services.Carry.TheVariants.{Clear}
-use Rattle.client_world.specs.Registers.{flags_image}
-use Rattle.client_world.specs.Services.{cx, es_di}
-use Rattle.client_world.specs.Soundness.{IsSound}
-use Rattle.client_world.specs.World.{World, depth}
-use Rattle.translation.specs.HandOver.{HasBegun, HasReflected, passed_words}
-use Rattle.translation.specs.RealStack.{are_writable_words, host_real_stack, words_below}
+use Rattle.client_world.specs.{declared.memory_map.TheConstants.{REAL_STACK_SEGMENT}, declared.services.Carry.TheVariants.{Clear}}
+use Rattle.client_world.specs.{Registers.{flags_image}, Services.{cx, es_di}, Soundness.{IsSound}, World.{World, depth}}
+use Rattle.translation.specs.{HandOver.{HasBegun, HasReflected, passed_words}, RealStack.{are_writable_words, host_real_stack, words_below}}
 use Rattle.translation.specs.SimulatedCall.{after_reflection, begin_call, call_regs, call_words, callee_world, called_world, client_words}
-use Rattle.translation.specs.SimulatedCall.{reflect, reflection_regs, reflection_words, return_frame}
-use Rattle.translation.specs.Structure.{structure_bytes, structure_flags, structure_regs}
-use Rattle.translation.proofs.Begun.{Runs, begun_world, is_made, runs}
-use Rattle.translation.proofs.ReadBytes.{client_word_small, far_are_bytes, word_small}
-use Rattle.translation.proofs.StackWords.{AreWords, join_words, low_word, words_back}
+use Rattle.translation.specs.{SimulatedCall.{reflect, reflection_regs, reflection_words, return_frame}, Structure.{structure_bytes}}
+use Rattle.translation.specs.Structure.{structure_flags, structure_regs}
+use Rattle.translation.proofs.{Begun.{Runs, begun_world, is_made, runs}, ReadBytes.{client_word_small, word_small}, StackWords.{AreWords}}
+use Rattle.translation.proofs.StackWords.{join_words, low_word, words_back}
+use Rattle.guest_space.proofs.SoundBytes.{far_are_bytes}
+use Rattle.client_world.proofs.FlagBits.{image_small}
 
 -- ---- the words that are put are words, and few
 
@@ -62,13 +55,6 @@ pub has_begun : (w : World) (call : Call) → IsSound w → (begin_call w call).
 has_begun w call sound e = grind (arith, begun_is, begun_world, far_are_bytes, runs, word_small)
 
 -- ---- a reflection
-
-weight_fits : (b : Bool) (bit : ℕ) → cond b bit 0 ≤ bit
-weight_fits true bit = omega arith
-weight_fits false bit = omega arith
-
-image_small : (f : Flags) (on : Bool) → flags_image f on < 0x10000
-image_small f on = grind (arith, weight_fits)
 
 host_fits : (w : World) → depth w < GREATEST_DEPTH → are_writable_words REAL_STACK_SEGMENT (words_below (host_real_stack w).off 3) 3 ≡ true
 host_fits w room = grind (arith, low_word)

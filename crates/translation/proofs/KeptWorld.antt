@@ -1,17 +1,11 @@
 -- What a call, a reflection and a return leave as it was.
 use Rattle.std.proofs.Common.{◌≡◌, ℕ, ◌-◌, Bool, List, refl, ap, sym, subst, take, Ok}
-use Rattle.client_world.specs.declared.calls.Call.{Call}
-use Rattle.client_world.specs.declared.registers.Mode.TheVariants.{Protected}
-use Rattle.client_world.specs.declared.registers.Regs.{Regs}
-use Rattle.client_world.specs.declared.segments.FarPtr.{FarPtr}
-use Rattle.client_world.specs.declared.services.Carry.{Carry}
-use Rattle.client_world.specs.declared.services.Carry.TheVariants.{Clear, Set}
-use Rattle.client_world.specs.World.{World, depth}
-use Rattle.translation.specs.HandOver.{LeftForCallee, LeftForClient}
-use Rattle.translation.specs.SimulatedCall.{after_reflection, after_return, begin_call, callee_world, client_regs, end_call, reflect}
-use Rattle.translation.proofs.Begun.{begun_world, is_made, refused_world}
-use Rattle.translation.proofs.Ended.{is_return}
-use Rattle.translation.proofs.SoundReturns.{results_alone}
+use Rattle.client_world.specs.{declared.calls.Call.{Call}, declared.registers.Mode.TheVariants.{Protected}, declared.registers.Regs.{Regs}}
+use Rattle.client_world.specs.{declared.segments.FarPtr.{FarPtr}, declared.services.Carry.{Carry}}
+use Rattle.client_world.specs.{declared.services.Carry.TheVariants.{Clear, Set}, World.{World, depth}}
+use Rattle.translation.specs.{HandOver.{LeftForCallee, LeftForClient}, SimulatedCall.{after_reflection, after_return, begin_call}}
+use Rattle.translation.specs.SimulatedCall.{callee_world, client_regs, end_call, reflect}
+use Rattle.translation.proofs.{Begun.{begun_world, is_made, refused_world}, Ended.{is_return}, SoundReturns.{results_alone}}
 
 callee_left : (w : World) (call : Call) (at : FarPtr) (r : Regs) (on : Bool) (words : List ℕ) →
     LeftForCallee w (callee_world w call at r on words)

@@ -1,39 +1,23 @@
 -- What is read at a run after a part of it was written.
 use Rattle.std.proofs.Common.{◌≡◌, ℕ, ◌+◌, ◌-◌, ◌%◌, ◌<◌, ◌≤◌, ◌^◌, ◌⊎◌, inl, inr, Bool, true, false, List, [], length, get_or, refl, ap}
-use Rattle.std.proofs.Common.{◌∙◌, sym, arith, slice_index_or, Result}
-use Rattle.std.proofs.lemmas.Bool.{cases_lt}
-use Rattle.std.proofs.lemmas.Grind.{same_number_lists}
-use Rattle.client_world.specs.declared.place.Place.{Place}
-use Rattle.client_world.specs.declared.place.Place.TheVariants.{Nothing}
-use Rattle.client_world.specs.declared.faults.Fault.{Fault}
-use Rattle.client_world.specs.declared.host_frames.TheConstants.{PAGE_SIZE}
-use Rattle.client_world.specs.declared.segments.FarPtr.{FarPtr}
-use Rattle.client_world.specs.declared.segments.SegReg.TheVariants.{Es}
-use Rattle.client_world.specs.Access.{byte_of, bytes_of, far_access, is_reachable, linear, place_in, places_from, with_bytes_of}
-use Rattle.client_world.specs.Soundness.{IsSound}
-use Rattle.client_world.specs.World.{World}
-use Rattle.client_world.proofs.PlaceLaws.{length-places_from, places_from-at}
-use Rattle.client_world.proofs.SoundWrites.{at_bytes_of, length-bytes_of}
+use Rattle.std.proofs.{Common.{◌∙◌, sym, arith, slice_index_or, Result}, lemmas.Bool.{cases_lt}, lemmas.Grind.{same_number_lists}}
+use Rattle.client_world.specs.{declared.place.Place.{Place}, declared.place.Place.TheVariants.{Nothing}, declared.faults.Fault.{Fault}}
+use Rattle.client_world.specs.{declared.host_frames.TheConstants.{PAGE_SIZE}, declared.segments.FarPtr.{FarPtr}}
+use Rattle.client_world.specs.{declared.segments.SegReg.TheVariants.{Es}, Access.{byte_of, bytes_of, far_access, is_reachable, linear}}
+use Rattle.client_world.specs.{Access.{place_in, places_from, with_bytes_of}, Soundness.{IsSound}, World.{World}}
+use Rattle.client_world.proofs.{PlaceLaws.{length-places_from, places_from-at}, SoundWrites.{at_bytes_of, length-bytes_of}}
 use Rattle.guest_ram.specs.Bytes.{put, region}
 use Rattle.guest_ram.proofs.PutLaws.{at_region, length-put, put_away, put_within}
 use Rattle.host_memory.specs.View.{MachineView}
-use Rattle.guest_space.specs.Far.{far_bytes, world_after_far_write, further}
-use Rattle.guest_space.specs.Transfer.{places_of_access, with_places}
-use Rattle.guest_space.proofs.DistinctPlaces.{addresses_apart}
-use Rattle.guest_space.proofs.FarLaws.{part_is_read, written_is_read}
-use Rattle.guest_space.proofs.FarPuts.{world_far_written}
-use Rattle.guest_space.proofs.Fars.{Reached, far_places, parts_reachable, reachable_linear, reached}
-use Rattle.guest_space.proofs.KeptAccess.{far_access_same, reachable_kept, same_places}
-use Rattle.guest_space.proofs.Parts.{protected_part, protected_read}
+use Rattle.guest_space.specs.{Far.{far_bytes, world_after_far_write, further}, Transfer.{places_of_access, with_places}}
+use Rattle.guest_space.proofs.{DistinctPlaces.{addresses_apart}, FarLaws.{part_is_read, written_is_read, far_bytes_is}}
+use Rattle.guest_space.proofs.{FarPuts.{world_far_written}, Fars.{Reached, far_places, parts_reachable, reachable_linear, reached}}
+use Rattle.guest_space.proofs.{KeptAccess.{far_access_same, reachable_kept, same_places}, Parts.{protected_part, protected_read}}
 use Rattle.guest_space.proofs.ReadBack.{bytes_kept}
 
 -- a machine with that world, whose bytes don't matter
 abbrev bare : World → MachineView
 bare w = record { world = w; bytes = [] }
-
-bytes_read : (w : World) (p : FarPtr) (n : ℕ) → far_bytes w p n ≡ bytes_of w (places_of_access (far_access w p n false))
-unfolding far_bytes
-bytes_read w p n = refl
 
 world_put : (w : World) (p : FarPtr) (n : ℕ) (bytes : List ℕ) →
     world_after_far_write w p n bytes ≡ with_bytes_of w (places_of_access (far_access w p n true)) bytes
@@ -71,7 +55,7 @@ byte_before : (w : World) (p : FarPtr) (n i : ℕ) (run : Reached w p n true) �
     get_or (far_bytes w p n) i 0 ≡ byte_of w (place_in w.blocks (linear (start w p n run + i)))
 byte_before w p n i run e inside =
     let places = places_from w.blocks (start w p n run) n in
-    ap (λ (xs : List ℕ). get_or xs i 0) (bytes_read w p n ∙ ap (bytes_of w) (read_before w p n run e))
+    ap (λ (xs : List ℕ). get_or xs i 0) (far_bytes_is w p n ∙ ap (bytes_of w) (read_before w p n run e))
     ∙ at_bytes_of w places i (omega (arith, length-places_from w.blocks (start w p n run) n))
     ∙ ap (byte_of w) (places_from-at w.blocks (start w p n run) n i Nothing inside)
 
@@ -83,7 +67,7 @@ byte_after w q bytes p n i run e inside =
     let u = with_bytes_of w q bytes in
     let places = places_from w.blocks (start w p n run) n in
     ap (λ (xs : List ℕ). get_or xs i 0)
-    (bytes_read u p n ∙ ap (λ (x : Result (List Place) Fault). bytes_of u (places_of_access x)) (access_after w q bytes p n)
+    (far_bytes_is u p n ∙ ap (λ (x : Result (List Place) Fault). bytes_of u (places_of_access x)) (access_after w q bytes p n)
     ∙ ap (bytes_of u) (read_before w p n run e))
     ∙ at_bytes_of u places i (omega (arith, length-places_from w.blocks (start w p n run) n))
     ∙ ap (byte_of u) (places_from-at w.blocks (start w p n run) n i Nothing inside)
@@ -128,7 +112,7 @@ outside w p n k m i bytes open_run within inside away =
 length-far : (w : World) (p : FarPtr) (n : ℕ) → IsOpen w p n → length (far_bytes w p n) ≡ n
 length-far w p n open_run =
     let run = reached w p n true open_run.write in
-    ap (λ (xs : List ℕ). length xs) (bytes_read w p n ∙ ap (bytes_of w) (read_before w p n run open_run.read))
+    ap (λ (xs : List ℕ). length xs) (far_bytes_is w p n ∙ ap (bytes_of w) (read_before w p n run open_run.read))
     ∙ length-bytes_of w (places_from w.blocks (start w p n run) n) ∙ length-places_from w.blocks (start w p n run) n
 
 -- a byte of the part is the one that was written

@@ -1,22 +1,14 @@
 -- A run that is reachable ends at 100000000h at the latest; and the parts of a structure.
-use Rattle.std.proofs.Common.{◌≡◌, ℕ, ◌+◌, ◌≤◌, ◌^◌, Bool, true, false, ◌&&◌, not, refl, ap, ◌∙◌, sym, arith, List, length, None, Some}
-use Rattle.std.proofs.Common.{Result, Ok, Err}
+use Rattle.std.proofs.Common.{◌≡◌, ℕ, ◌+◌, ◌≤◌, ◌^◌, Bool, true, false, ◌&&◌, ap, ◌∙◌, sym, arith, List, length, None, Some, Ok}
+use Rattle.std.proofs.{lemmas.Bool.{cases_Bool, and_parts, not-false}, lemmas.Bool.Decides.{nat_tests}}
 use Rattle.std.specs.Prelude.{IsTrue, nat_lt, nat_le, if◌then◌else◌}
-use Rattle.std.proofs.lemmas.Bool.{cases_Bool}
-use Rattle.std.proofs.lemmas.Bool.Decides.{nat_tests}
-use Rattle.client_world.specs.declared.descriptors.Desc.{Desc}
-use Rattle.client_world.specs.declared.faults.Fault.{Fault}
-use Rattle.client_world.specs.declared.segments.FarPtr.{FarPtr}
-use Rattle.client_world.specs.declared.segments.SegReg.TheVariants.{Es}
-use Rattle.client_world.specs.declared.faults.TheConstants.{GENERAL_PROTECTION}
-use Rattle.client_world.specs.Access.{base_in_row, fault_with, is_reachable}
-use Rattle.client_world.specs.Descriptor.{is_inside}
-use Rattle.client_world.specs.Selector.{Row, is_null, row_of_selector}
-use Rattle.client_world.specs.World.{World}
-use Rattle.guest_space.proofs.Fars.{parts_reachable, reached}
+use Rattle.client_world.specs.{declared.descriptors.Desc.{Desc}, declared.segments.FarPtr.{FarPtr}}
+use Rattle.client_world.specs.{declared.segments.SegReg.TheVariants.{Es}, declared.faults.TheConstants.{GENERAL_PROTECTION}}
+use Rattle.client_world.specs.{Access.{base_in_row, fault_with, is_reachable}, Descriptor.{is_inside}, Selector.{Row, is_null}}
+use Rattle.client_world.specs.{Selector.{row_of_selector}, World.{World}}
+use Rattle.guest_space.proofs.{Fars.{parts_reachable, reached}, Parts.{passed}}
 use Rattle.guest_space.specs.Far.{further}
-use Rattle.translation.specs.declared.structure.TheConstants.{STRUCTURE_SIZE}
-use Rattle.translation.specs.Structure.{has_structure}
+use Rattle.translation.specs.{declared.structure.TheConstants.{STRUCTURE_SIZE}, Structure.{has_structure}}
 
 up_ends : (end limit : ℕ) → (nat_le end limit && nat_le end (2 ^ 32)) ≡ true → end ≤ 2 ^ 32
 up_ends end limit e = grind (arith, nat_tests)
@@ -32,18 +24,9 @@ greatest_fits false = omega arith
 inside_ends : (d : Desc) (offset n : ℕ) → is_inside d offset n ≡ true → offset + n ≤ 2 ^ 32
 inside_ends d offset n e = grind (arith, cases_Bool, down_ends, greatest_fits, up_ends)
 
--- a test that was passed, and what came after it
-passed : (c : Bool) (f : Fault) (r : Result ℕ Fault) (base : ℕ) → (if c then Err f else r) ≡ Ok base → (c ≡ false) × (r ≡ Ok base)
-passed true f r base e = absurd cc
-passed false f r base e = (refl, e)
-
-not_false : (c : Bool) → not c ≡ false → c ≡ true
-not_false true e = refl
-not_false false e = absurd cc
-
 row_ends : (sel : ℕ) (row : Row) (offset n base : ℕ) (write : Bool) → base_in_row Es sel row offset n write ≡ Ok base → offset + n ≤ 2 ^ 32
 row_ends sel None offset n base write e = absurd cc
-row_ends sel (Some row) offset n base write e = grind (arith, inside_ends, not_false, passed)
+row_ends sel (Some row) offset n base write e = grind (arith, inside_ends, not-false, passed)
 
 pub run_ends : (w : World) (p : FarPtr) (n : ℕ) (write : Bool) → is_reachable w p n write ≡ true → p.off + n ≤ 2 ^ 32
 run_ends w p n write e =
@@ -52,15 +35,11 @@ run_ends w p n write e =
     row_ends p.sel (row_of_selector w.descriptors p.sel) p.off n run.base write some.1
 
 -- a structure is a run that may be read, and one that may be written
-both : (a b : Bool) → (a && b) ≡ true → (a ≡ true) × (b ≡ true)
-both true b e = (refl, e)
-both false b e = absurd cc
-
 pub structure_read : (w : World) (at : FarPtr) → IsTrue (has_structure w at) → is_reachable w at STRUCTURE_SIZE false ≡ true
-structure_read w at e = (both (is_reachable w at STRUCTURE_SIZE false) (is_reachable w at STRUCTURE_SIZE true) e).0
+structure_read w at e = (and_parts (is_reachable w at STRUCTURE_SIZE false) (is_reachable w at STRUCTURE_SIZE true) e).0
 
 pub structure_written : (w : World) (at : FarPtr) → IsTrue (has_structure w at) → is_reachable w at STRUCTURE_SIZE true ≡ true
-structure_written w at e = (both (is_reachable w at STRUCTURE_SIZE false) (is_reachable w at STRUCTURE_SIZE true) e).1
+structure_written w at e = (and_parts (is_reachable w at STRUCTURE_SIZE false) (is_reachable w at STRUCTURE_SIZE true) e).1
 
 pub structure_ends : (w : World) (at : FarPtr) → IsTrue (has_structure w at) → at.off + STRUCTURE_SIZE ≤ 2 ^ 32
 structure_ends w at e = run_ends w at STRUCTURE_SIZE true (structure_written w at e)

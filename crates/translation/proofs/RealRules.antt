@@ -1,15 +1,11 @@
 -- A word of a real stack can be written exactly where a push of real mode could write it.
 use Rattle.std.proofs.Common.{◌≡◌, ℕ, ◌+◌, ◌*◌, ◌<◌, ◌≤◌, true, false, ◌&&◌, not, List, [], ◌∷◌, refl, ap, ◌∙◌, arith, Option}
+use Rattle.std.proofs.{lemmas.Bool.{le-leb}, lemmas.Bool.Decides.{nat_tests}}
 use Rattle.std.specs.Prelude.{is_none, nat_eq, nat_le}
-use Rattle.std.proofs.lemmas.Bool.{le-leb}
-use Rattle.std.proofs.lemmas.Bool.Decides.{nat_tests}
-use Rattle.client_world.specs.declared.memory_map.TheConstants.{PARAGRAPH_SIZE, SEGMENT_SIZE}
-use Rattle.client_world.specs.declared.place.Place.{Place}
-use Rattle.client_world.specs.declared.place.Place.TheVariants.{Dos}
-use Rattle.client_world.specs.declared.registers.Mode.TheVariants.{Real}
-use Rattle.client_world.specs.declared.segments.SegReg.TheVariants.{Ss}
-use Rattle.client_world.specs.Access.{access, linear, may_touch, place_in, places_from, segment_base, touched_places, real_address}
-use Rattle.client_world.specs.World.{World, MemoryBlock}
+use Rattle.client_world.specs.{declared.memory_map.TheConstants.{PARAGRAPH_SIZE, SEGMENT_SIZE}, declared.place.Place.{Place}}
+use Rattle.client_world.specs.{declared.place.Place.TheVariants.{Dos}, declared.registers.Mode.TheVariants.{Real}}
+use Rattle.client_world.specs.{declared.segments.SegReg.TheVariants.{Ss}, Access.{access, linear, may_touch, place_in, places_from}}
+use Rattle.client_world.specs.{Access.{segment_base, touched_places, real_address}, World.{World, MemoryBlock}}
 use Rattle.client_world.proofs.PlaceLaws.{place-dos}
 use Rattle.guest_space.specs.Transfer.{access_fault, fault_of}
 use Rattle.translation.specs.RealStack.{is_writable_word}

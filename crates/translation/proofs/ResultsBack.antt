@@ -2,29 +2,20 @@
 use Rattle.std.proofs.Common.{◌≡◌, ℕ, Bool, true, false, ◌||◌, List, [], ◌∷◌, ◌++◌, length, slice_index, refl, ap, ◌∙◌, sym, arith, Option}
 use Rattle.std.proofs.Common.{Result, Ok}
 use Rattle.std.specs.Prelude.{if◌then◌else◌}
-use Rattle.client_world.specs.declared.calls.Call.{Call}
-use Rattle.client_world.specs.declared.calls.Record.{Record}
-use Rattle.client_world.specs.declared.calls.Record.TheVariants.{Sim}
-use Rattle.client_world.specs.declared.faults.Fault.{Fault}
-use Rattle.client_world.specs.declared.place.Place.{Place}
-use Rattle.client_world.specs.declared.place.Place.TheVariants.{Dos, Block, Host, Nothing}
-use Rattle.client_world.specs.declared.registers.Regs.{Regs}
-use Rattle.client_world.specs.declared.segments.FarPtr.{FarPtr}
-use Rattle.client_world.specs.Access.{byte_of, bytes_of, bytes_of_block, far_access}
-use Rattle.client_world.specs.Soundness.{IsSound}
-use Rattle.client_world.specs.World.{World, MemoryBlock, block_at}
+use Rattle.client_world.specs.{declared.calls.Call.{Call}, declared.calls.Record.{Record}, declared.calls.Record.TheVariants.{Sim}}
+use Rattle.client_world.specs.{declared.faults.Fault.{Fault}, declared.place.Place.{Place}, declared.place.Place.TheVariants.{Dos, Block}}
+use Rattle.client_world.specs.{declared.place.Place.TheVariants.{Host, Nothing}, declared.registers.Regs.{Regs}}
+use Rattle.client_world.specs.{declared.segments.FarPtr.{FarPtr}, Access.{byte_of, bytes_of, bytes_of_block, far_access}}
+use Rattle.client_world.specs.{Soundness.{IsSound}, World.{World, MemoryBlock, block_at}}
 use Rattle.guest_ram.specs.Bytes.{put}
-use Rattle.guest_space.specs.Far.{far_bytes, world_after_far_write, further}
-use Rattle.guest_space.specs.Transfer.{places_of_access}
+use Rattle.guest_space.specs.{Far.{far_bytes, world_after_far_write, further}, Transfer.{places_of_access}}
 use Rattle.guest_space.proofs.FarPuts.{sound_far_put}
-use Rattle.translation.specs.HandOver.{HasEnded}
-use Rattle.translation.specs.SimulatedCall.{after_results, after_return, end_call, is_reflection}
+use Rattle.translation.specs.{HandOver.{HasEnded}, SimulatedCall.{after_results, after_return, end_call, is_reflection}}
 use Rattle.translation.specs.Structure.{has_structure, index_results, other_results, structure_bytes, with_results}
 use Rattle.translation.specs.declared.structure.TheConstants.{STRUCTURE_SIZE}
-use Rattle.translation.proofs.Ended.{but_last, is_return}
-use Rattle.translation.proofs.PutPart.{IsOpen, part_put, reachable_after}
-use Rattle.translation.proofs.Reaches.{no_further, structure_read, structure_written}
-use Rattle.translation.proofs.SoundReturns.{index_bytes, other_bytes}
+use Rattle.translation.proofs.{Ended.{is_return}, PutPart.{IsOpen, part_put, reachable_after}, Reaches.{no_further, structure_read}}
+use Rattle.translation.proofs.{Reaches.{structure_written}, SoundReturns.{index_bytes, other_bytes}}
+use Rattle.mode_stack.proofs.LastRecord.{but_last}
 
 -- what is read depends on the memory and the descriptors alone
 same_byte : (w u : World) (p : Place) → u.dos ≡ w.dos → u.blocks ≡ w.blocks → byte_of u p ≡ byte_of w p

@@ -1,10 +1,7 @@
 -- The client after a return: a write changes no record.
 use Rattle.std.proofs.Common.{◌≡◌, ◌-◌, ◌<◌, subst, sym, take, Bool, arith}
-use Rattle.client_world.specs.declared.calls.Call.{Call}
-use Rattle.client_world.specs.declared.registers.Mode.TheVariants.{Protected}
-use Rattle.client_world.specs.declared.registers.Regs.{Regs}
-use Rattle.client_world.specs.declared.segments.FarPtr.{FarPtr}
-use Rattle.client_world.specs.World.{World, depth}
+use Rattle.client_world.specs.{declared.calls.Call.{Call}, declared.registers.Mode.TheVariants.{Protected}, declared.registers.Regs.{Regs}}
+use Rattle.client_world.specs.{declared.segments.FarPtr.{FarPtr}, World.{World, depth}}
 use Rattle.guest_space.specs.Transfer.{HasOtherMemory}
 use Rattle.translation.specs.SimulatedCall.{after_results, after_return, client_regs}
 

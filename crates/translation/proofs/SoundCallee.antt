@@ -1,35 +1,18 @@
 -- The world in which a callee starts is sound.
-use Rattle.std.proofs.Common.{◌≡◌, ◌≢◌, ℕ, ◌+◌, ◌*◌, ◌/◌, ◌%◌, ◌<◌, ◌≤◌, Bool, true, false, ◌&&◌, List, [], ◌∷◌, ◌++◌, length, slice_set}
-use Rattle.std.proofs.Common.{refl, arith, None}
-use Rattle.std.specs.Prelude.{nat_eq, nat_lt, if◌then◌else◌}
-use Rattle.std.proofs.lemmas.Bool.{ltb-true}
+use Rattle.std.proofs.Common.{◌≢◌, ℕ, ◌+◌, ◌*◌, ◌/◌, ◌%◌, ◌<◌, ◌≤◌, Bool, true, false, ◌&&◌, List, [], ◌∷◌, ◌++◌, length, arith, None}
 use Rattle.std.proofs.lemmas.List.{length-append}
-use Rattle.client_world.specs.declared.calls.Call.{Call}
-use Rattle.client_world.specs.declared.calls.Call.TheVariants.{Int, Far, Iret, Reflect}
-use Rattle.client_world.specs.declared.calls.Record.TheVariants.{Sim}
-use Rattle.client_world.specs.declared.limits.TheConstants.{GREATEST_DEPTH}
-use Rattle.client_world.specs.declared.memory_map.TheConstants.{ROM_START}
-use Rattle.client_world.specs.declared.registers.Regs.{Regs}
-use Rattle.client_world.specs.declared.segments.FarPtr.{FarPtr}
-use Rattle.client_world.specs.Access.{real_address}
-use Rattle.client_world.specs.Soundness.{IsSound, HasSegments, SoundMegabyte}
-use Rattle.client_world.specs.World.{World, depth}
-use Rattle.client_world.proofs.SoundWrites.{IsSound-dos, IsSound-real, IsSound-regs, IsSound-vif, SoundMegabyte-set}
+use Rattle.std.specs.Prelude.{nat_eq, if◌then◌else◌}
+use Rattle.client_world.specs.{declared.calls.Call.{Call}, declared.calls.Call.TheVariants.{Int, Far, Iret, Reflect}}
+use Rattle.client_world.specs.{declared.calls.Record.TheVariants.{Sim}, declared.limits.TheConstants.{GREATEST_DEPTH}}
+use Rattle.client_world.specs.{declared.registers.Regs.{Regs}, declared.segments.FarPtr.{FarPtr}, Access.{real_address}}
+use Rattle.client_world.specs.{Soundness.{IsSound, HasSegments, SoundMegabyte}, World.{World, depth}}
+use Rattle.client_world.proofs.SoundWrites.{IsSound-dos, IsSound-real, IsSound-regs, IsSound-vif}
 use Rattle.guest_ram.specs.Bytes.{AreBytes}
 use Rattle.guest_space.specs.Dos.{with_dos_byte}
-use Rattle.guest_space.proofs.SoundLists.{IsSound-calls}
-use Rattle.translation.specs.RealStack.{host_real_stack, next_word, with_word_at, with_words_at}
-use Rattle.translation.specs.SimulatedCall.{callee_regs, callee_stack, callee_start, callee_world}
-use Rattle.translation.specs.Structure.{structure_regs}
+use Rattle.guest_space.proofs.{SoundLists.{IsSound-calls}, SoundBytes.{sound_byte}}
+use Rattle.translation.specs.{RealStack.{host_real_stack, next_word, with_word_at, with_words_at}, SimulatedCall.{callee_regs}}
+use Rattle.translation.specs.{SimulatedCall.{callee_stack, callee_start, callee_world}, Structure.{structure_regs}}
 use Rattle.translation.proofs.ReadBytes.{word_small}
-
-below_rom : (low : Bool) (dos : List ℕ) (at v : ℕ) → nat_lt at ROM_START ≡ low → SoundMegabyte dos → v < 0x100 →
-    SoundMegabyte (if low then slice_set dos at v else dos)
-below_rom true dos at v e s small = SoundMegabyte-set dos at v s (ltb-true at ROM_START e) small
-below_rom false dos at v e s small = s
-
-sound_byte : (dos : List ℕ) (at v : ℕ) → SoundMegabyte dos → v < 0x100 → SoundMegabyte (with_dos_byte dos at v)
-sound_byte dos at v s small = below_rom (nat_lt at ROM_START) dos at v refl s small
 
 sound_word : (dos : List ℕ) (segment offset v : ℕ) → SoundMegabyte dos → SoundMegabyte (with_word_at dos segment offset v)
 unfolding with_word_at

@@ -1,26 +1,17 @@
 -- A call, a reflection and a return lead from a sound world to a sound one, and leave the rest as it was.
-use Rattle.std.proofs.Common.{◌≡◌, ◌≢◌, ℕ, ◌<◌, length, refl, sym, subst, arith, Option, None, Some, Ok}
-use Rattle.client_world.specs.declared.calls.Call.{Call}
-use Rattle.client_world.specs.declared.limits.TheConstants.{GREATEST_DEPTH}
-use Rattle.client_world.specs.declared.registers.Mode.TheVariants.{Protected}
-use Rattle.client_world.specs.declared.registers.Regs.{Regs}
-use Rattle.client_world.specs.declared.registers.Width.{Width}
-use Rattle.client_world.specs.declared.services.Carry.{Carry}
-use Rattle.client_world.specs.declared.services.Carry.TheVariants.{Clear, Set}
-use Rattle.client_world.specs.Services.{es_di}
-use Rattle.client_world.specs.Soundness.{IsSound, HasSegments, SoundWidth}
-use Rattle.client_world.specs.World.{World, depth}
+use Rattle.std.proofs.Common.{◌≡◌, ℕ, ◌<◌, length, refl, sym, subst, arith, Ok}
+use Rattle.client_world.specs.{declared.calls.Call.{Call}, declared.limits.TheConstants.{GREATEST_DEPTH}}
+use Rattle.client_world.specs.{declared.registers.Mode.TheVariants.{Protected}, declared.registers.Regs.{Regs}}
+use Rattle.client_world.specs.{declared.services.Carry.{Carry}, declared.services.Carry.TheVariants.{Clear, Set}, Services.{es_di}}
+use Rattle.client_world.specs.{Soundness.{IsSound, HasSegments}, World.{World, depth}}
 use Rattle.translation.specs.SimulatedCall.{after_reflection, begin_call, call_regs, call_words, callee_interrupts, callee_stack}
-use Rattle.translation.specs.SimulatedCall.{callee_start, reflect, reflection_regs}
-use Rattle.translation.specs.Structure.{structure_bytes, structure_flags, structure_regs}
+use Rattle.translation.specs.{SimulatedCall.{callee_start, reflect, reflection_regs}, Structure.{structure_bytes, structure_flags}}
+use Rattle.translation.specs.Structure.{structure_regs}
 use Rattle.service_rows.proofs.AnswerLaws.{sound_ax}
-use Rattle.translation.proofs.Begun.{begun_world, is_made, refused_world, runs}
-use Rattle.translation.proofs.ReadBytes.{far_are_bytes}
-use Rattle.translation.proofs.SoundCallee.{callee_segments, sound_callee, stack_is_word, start_is_word, structure_segments}
-
-protected_by : (width : Option Width) (w : World) → w.mode ≡ Protected → SoundWidth width w → width ≢ None
-protected_by None w is s = λ e. (let real = s.mode in cc)
-protected_by (Some width) w is s = λ e. cc
+use Rattle.translation.proofs.{Begun.{begun_world, is_made, refused_world, runs}, SoundCallee.{callee_segments, sound_callee}}
+use Rattle.translation.proofs.SoundCallee.{stack_is_word, start_is_word, structure_segments}
+use Rattle.guest_space.proofs.SoundBytes.{far_are_bytes}
+use Rattle.client_world.proofs.SoundWrites.{protected_by}
 
 call_segments : (w : World) (call : Call) (r : Regs) (n : ℕ) → IsSound w → HasSegments r → HasSegments (call_regs w call r n)
 unfolding call_regs

@@ -1,29 +1,19 @@
 -- A return leads from a sound world to a sound one.
-use Rattle.std.proofs.Common.{◌≡◌, ◌≢◌, ℕ, suc, ◌<◌, Bool, true, false, List, [], ◌∷◌, ◌++◌, refl, sym, subst, arith, Option, None, Some}
-use Rattle.std.proofs.Common.{Ok}
-use Rattle.std.specs.Prelude.{if◌then◌else◌}
+use Rattle.std.proofs.Common.{◌≡◌, ◌≢◌, ℕ, ◌<◌, Bool, true, false, List, ◌++◌, refl, sym, subst, arith, Option, None, Some, Ok}
 use Rattle.std.proofs.lemmas.List.{length-take-le}
-use Rattle.client_world.specs.declared.calls.Call.{Call}
-use Rattle.client_world.specs.declared.registers.Mode.TheVariants.{Protected}
-use Rattle.client_world.specs.declared.registers.Regs.{Regs}
-use Rattle.client_world.specs.declared.registers.Width.{Width}
-use Rattle.client_world.specs.declared.segments.FarPtr.{FarPtr}
-use Rattle.client_world.specs.declared.segments.SegReg.TheVariants.{Cs, Ss}
-use Rattle.client_world.specs.Registers.{flags_image}
-use Rattle.client_world.specs.Soundness.{IsSound, HasSegments}
+use Rattle.std.specs.Prelude.{if◌then◌else◌}
+use Rattle.client_world.specs.{declared.calls.Call.{Call}, declared.registers.Mode.TheVariants.{Protected}, declared.registers.Regs.{Regs}}
+use Rattle.client_world.specs.{declared.registers.Width.{Width}, declared.segments.FarPtr.{FarPtr}}
+use Rattle.client_world.specs.{declared.segments.SegReg.TheVariants.{Cs, Ss}, Registers.{flags_image}, Soundness.{IsSound, HasSegments}}
 use Rattle.client_world.specs.World.{World, depth}
-use Rattle.client_world.proofs.SoundWrites.{IsSound-mode}
+use Rattle.client_world.proofs.{SoundWrites.{IsSound-mode}, NamedWords.{loadable_is_word}}
 use Rattle.guest_ram.specs.Bytes.{AreBytes}
-use Rattle.guest_space.specs.Pending.{number_bytes}
-use Rattle.guest_space.specs.Transfer.{HasOtherMemory}
-use Rattle.guest_space.proofs.FarPuts.{other_far_put, sound_far_put}
-use Rattle.guest_space.proofs.MemoryAlone.{other_then}
-use Rattle.guest_space.proofs.RecordWrites.{has_width}
+use Rattle.guest_space.specs.{Pending.{number_bytes}, Transfer.{HasOtherMemory}}
+use Rattle.guest_space.proofs.{FarPuts.{other_far_put, sound_far_put}, MemoryAlone.{other_then}, RecordWrites.{has_width}}
 use Rattle.translation.specs.SimulatedCall.{after_results, after_return, client_regs, end_call, is_reflection, with_place_of}
 use Rattle.translation.specs.Structure.{index_results, other_results, with_results}
-use Rattle.translation.proofs.Ended.{is_return}
-use Rattle.translation.proofs.NamedWords.{loadable_is_word, still_word}
-use Rattle.translation.proofs.ReadBytes.{no_bytes, one_byte}
+use Rattle.translation.proofs.{Ended.{is_return}, NamedWords.{still_word}}
+use Rattle.guest_ram.proofs.ByteLists.{join_bytes, more_bytes, no_bytes}
 
 -- ---- the results are bytes
 
@@ -31,14 +21,10 @@ pub record HasBytes (xs : List ℕ) : Type 0 where
   pub each : AreBytes xs
 
 pub word_has_bytes : (v : ℕ) → HasBytes (number_bytes 16 v)
-word_has_bytes v = grind (arith, no_bytes, one_byte)
+word_has_bytes v = grind (arith, no_bytes, more_bytes)
 
 pub dword_has_bytes : (v : ℕ) → HasBytes (number_bytes 32 v)
-dword_has_bytes v = grind (arith, no_bytes, one_byte)
-
-join_bytes : (xs ys : List ℕ) → AreBytes xs → AreBytes ys → AreBytes (xs ++ ys)
-join_bytes [] ys one other = other
-join_bytes (x ∷ xs) ys one other = one_byte x (xs ++ ys) (one 0) (join_bytes xs ys (λ at. one (suc at)) other)
+dword_has_bytes v = grind (arith, no_bytes, more_bytes)
 
 pub join : {xs ys : List ℕ} → HasBytes xs → HasBytes ys → HasBytes (xs ++ ys)
 join {xs} {ys} one other = record { each = join_bytes xs ys one.each other.each }

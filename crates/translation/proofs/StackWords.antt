@@ -1,14 +1,14 @@
 -- Words that were put on a real stack are read there again: different offsets of a segment lie at different bytes of the megabyte.
 use Rattle.std.proofs.Common.{◌≡◌, ◌≢◌, ℕ, ◌+◌, ◌*◌, ◌%◌, ◌<◌, Bool, true, false, ◌&&◌, not, List, [], ◌∷◌, ◌++◌, length, slice_index}
 use Rattle.std.proofs.Common.{slice_set, refl, ap, ◌∙◌, arith, get_or-set_same, get_or-set_other, length-set}
+use Rattle.std.proofs.{lemmas.Bool.Decides.{nat_tests}, lemmas.Bool.{and_parts}}
 use Rattle.std.specs.Prelude.{nat_eq, nat_lt, if◌then◌else◌}
-use Rattle.std.proofs.lemmas.Bool.Decides.{nat_tests}
-use Rattle.client_world.specs.declared.limits.TheConstants.{GREATEST_DEPTH}
-use Rattle.client_world.specs.declared.memory_map.TheConstants.{DOS_SIZE, REAL_STACK_SEGMENT, REAL_STACK_SIZE, ROM_START, SEGMENT_SIZE}
+use Rattle.client_world.specs.{declared.limits.TheConstants.{GREATEST_DEPTH}, declared.memory_map.TheConstants.{DOS_SIZE}}
+use Rattle.client_world.specs.declared.memory_map.TheConstants.{REAL_STACK_SEGMENT, REAL_STACK_SIZE, ROM_START, SEGMENT_SIZE}
 use Rattle.client_world.specs.Access.{real_address}
 use Rattle.guest_space.specs.Dos.{with_dos_byte}
-use Rattle.translation.specs.RealStack.{are_writable_words, is_writable_word, next_word, stack_word, stack_words}
-use Rattle.translation.specs.RealStack.{with_word_at, with_words_at}
+use Rattle.translation.specs.RealStack.{are_writable_words, is_writable_word, next_word, stack_word, stack_words, with_word_at}
+use Rattle.translation.specs.RealStack.{with_words_at}
 
 pub addresses_apart : (segment a b : ℕ) → a % SEGMENT_SIZE ≢ b % SEGMENT_SIZE → real_address segment a ≢ real_address segment b
 addresses_apart segment a b other = λ e. other (omega (arith, e))
@@ -91,16 +91,12 @@ pub join_words : (xs ys : List ℕ) → AreWords xs → AreWords ys → AreWords
 join_words [] ys one other = other
 join_words (x ∷ xs) ys one other = (one.0, join_words xs ys one.1 other)
 
-both : (a b : Bool) → (a && b) ≡ true → (a ≡ true) × (b ≡ true)
-both true b e = (refl, e)
-both false b e = absurd cc
-
 pub words_back : (dos : List ℕ) (segment offset : ℕ) (vs : List ℕ) → length dos ≡ DOS_SIZE → length vs < 0x8000 →
     are_writable_words segment offset (length vs) ≡ true → AreWords vs →
     stack_words (with_words_at dos segment offset vs) segment offset (length vs) ≡ vs
 words_back dos segment offset [] size few can small = refl
 words_back dos segment offset (v ∷ vs) size few can small =
-    let puts = both (is_writable_word segment offset) (are_writable_words segment (next_word offset) (length vs)) can in
+    let puts = and_parts (is_writable_word segment offset) (are_writable_words segment (next_word offset) (length vs)) can in
     let first = with_word_at dos segment offset v in
     let all = with_words_at first segment (next_word offset) vs in
     let low : slice_index all (real_address segment offset) ≡ slice_index first (real_address segment offset) =

@@ -1,18 +1,12 @@
 -- Calls and reflections push one record, and returns pop one, from any world.
 use Rattle.std.proofs.Common.{◌≡◌, ℕ, Bool, List, [], ◌∷◌, ◌++◌, refl, ap, ◌∙◌, Ok, arith}
-use Rattle.client_world.specs.declared.calls.Call.{Call}
-use Rattle.client_world.specs.declared.calls.Call.TheVariants.{Reflect}
-use Rattle.client_world.specs.declared.calls.Record.TheVariants.{Sim}
-use Rattle.client_world.specs.declared.registers.Regs.{Regs}
-use Rattle.client_world.specs.declared.segments.FarPtr.{FarPtr}
-use Rattle.client_world.specs.declared.services.Carry.TheVariants.{Clear}
-use Rattle.client_world.specs.Segments.{null_pointer}
-use Rattle.client_world.specs.Services.{es_di}
-use Rattle.client_world.specs.World.{World}
-use Rattle.translation.specs.HandOver.{IsPopped}
-use Rattle.translation.specs.SimulatedCall.{after_reflection, after_return, begin_call, callee_world, end_call, reflect}
-use Rattle.translation.proofs.Begun.{begun_world, is_made}
-use Rattle.translation.proofs.Ended.{but_last, is_return}
+use Rattle.client_world.specs.{declared.calls.Call.{Call}, declared.calls.Call.TheVariants.{Reflect}}
+use Rattle.client_world.specs.{declared.calls.Record.TheVariants.{Sim}, declared.registers.Regs.{Regs}, declared.segments.FarPtr.{FarPtr}}
+use Rattle.client_world.specs.{declared.services.Carry.TheVariants.{Clear}, Segments.{null_pointer}, Services.{es_di}, World.{World}}
+use Rattle.translation.specs.{HandOver.{IsPopped}, SimulatedCall.{after_reflection, after_return, begin_call, callee_world, end_call}}
+use Rattle.translation.specs.SimulatedCall.{reflect}
+use Rattle.translation.proofs.{Begun.{begun_world, is_made}, Ended.{is_return}}
+use Rattle.mode_stack.proofs.LastRecord.{but_last}
 
 callee_calls : (w : World) (call : Call) (at : FarPtr) (r : Regs) (on : Bool) (words : List ℕ) →
     (callee_world w call at r on words).calls ≡ w.calls ++ Sim call w.regs w.vif at ∷ []

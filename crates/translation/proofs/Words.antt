@@ -1,8 +1,7 @@
 -- One word more of a stack.
 use Rattle.std.proofs.Common.{◌≡◌, ℕ, zero, suc, ◌+◌, ◌-◌, ◌<◌, ◌≤◌, Bool, true, ◌&&◌, List, [], ◌∷◌, ◌++◌, length, ap, ◌∙◌, arith, drop}
 use Rattle.std.proofs.Common.{get_or, append_assoc, drop-cons, add-one}
-use Rattle.std.specs.Prelude.{is_ok}
-use Rattle.std.specs.Int.{w16, from_le_bytes}
+use Rattle.std.specs.{Prelude.{is_ok}, Int.{w16, from_le_bytes}}
 use Rattle.client_world.specs.World.{World}
 use Rattle.guest_ram.specs.Bytes.{word_of}
 use Rattle.translation.specs.RealStack.{are_writable_words, is_writable_word, next_word, with_word_at, with_words_at}

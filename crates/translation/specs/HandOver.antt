@@ -1,19 +1,12 @@
 -- What a call, a reflection and their return hand over. Source: DPMI 0.9, INT 31h functions 0300h to 0302h, and "Interrupts".
 use Rattle.std.specs.Prelude.{◌≡◌, ℕ, Bool, false, List, [], ◌∷◌, ◌++◌, length}
-use Rattle.client_world.specs.declared.calls.Call.{Call}
-use Rattle.client_world.specs.declared.calls.Call.TheVariants.{Reflect}
-use Rattle.client_world.specs.declared.calls.Record.TheVariants.{Sim}
-use Rattle.client_world.specs.declared.registers.Mode.TheVariants.{Real, Protected}
-use Rattle.client_world.specs.declared.registers.Regs.{Regs}
-use Rattle.client_world.specs.declared.segments.FarPtr.{FarPtr}
-use Rattle.client_world.specs.Registers.{flags_image}
-use Rattle.client_world.specs.Segments.{null_pointer}
-use Rattle.client_world.specs.Services.{cx, es_di}
-use Rattle.client_world.specs.World.{World}
+use Rattle.client_world.specs.{declared.calls.Call.{Call}, declared.calls.Call.TheVariants.{Reflect}}
+use Rattle.client_world.specs.{declared.calls.Record.TheVariants.{Sim}, declared.registers.Mode.TheVariants.{Real, Protected}}
+use Rattle.client_world.specs.{declared.registers.Regs.{Regs}, declared.segments.FarPtr.{FarPtr}, Registers.{flags_image}}
+use Rattle.client_world.specs.{Segments.{null_pointer}, Services.{cx, es_di}, World.{World}}
 use Rattle.guest_ram.specs.Bytes.{put}
-use Rattle.translation.specs.RealStack.{host_real_stack, stack_words}
-use Rattle.translation.specs.SimulatedCall.{after_return, callee_interrupts, callee_regs, callee_stack, callee_start, client_regs}
-use Rattle.translation.specs.SimulatedCall.{client_words, is_reflection, return_frame}
+use Rattle.translation.specs.{RealStack.{host_real_stack, stack_words}, SimulatedCall.{after_return, callee_interrupts, callee_regs}}
+use Rattle.translation.specs.SimulatedCall.{callee_stack, callee_start, client_regs, client_words, is_reflection, return_frame}
 use Rattle.translation.specs.Structure.{index_results, other_results, structure_bytes, structure_flags, structure_regs}
 
 -- the words on a callee's stack, from its stack pointer up

@@ -2,9 +2,7 @@
 -- their segment, as single pushes would. Source: 80386 Programmer's Reference Manual, ch. 15; where the host's stacks lie is own.
 use Rattle.std.specs.Prelude.{ℕ, zero, suc, ◌+◌, ◌-◌, ◌*◌, ◌/◌, ◌%◌, Bool, true, ◌&&◌, not, nat_eq, nat_lt, slice_index, List, [], ◌∷◌}
 use Rattle.client_world.specs.declared.memory_map.TheConstants.{REAL_STACK_SEGMENT, REAL_STACK_SIZE, ROM_START, SEGMENT_SIZE}
-use Rattle.client_world.specs.declared.segments.FarPtr.{FarPtr}
-use Rattle.client_world.specs.Access.{real_address}
-use Rattle.client_world.specs.World.{World, depth}
+use Rattle.client_world.specs.{declared.segments.FarPtr.{FarPtr}, Access.{real_address}, World.{World, depth}}
 use Rattle.guest_space.specs.Dos.{with_dos_byte}
 
 -- the offset of the next word, and the offset n words below

@@ -1,43 +1,28 @@
 -- Calls of real-mode procedures from protected mode: those that a client asks for, interrupts that are reflected, and the return from both.
 -- Source: DPMI 0.9, INT 31h functions 0300h to 0302h, and "Interrupts"; the host's stacks, the depth and the exits are own.
 use Rattle.std.specs.Prelude.{ℕ, zero, suc, ◌+◌, ◌-◌, ◌*◌, Bool, true, false, ◌&&◌, ◌||◌, not, nat_eq, nat_le, nat_lt, is_ok, List, [], ◌∷◌}
-use Rattle.std.specs.Prelude.{◌++◌, length, take, None, Some, Ok, Err, if◌then◌else◌}
-use Rattle.std.specs.declared.option.Option.{Option}
+use Rattle.std.specs.{Prelude.{◌++◌, length, take, None, Some, Ok, Err, if◌then◌else◌}, declared.option.Option.{Option}}
 use Rattle.std.specs.declared.result.Result.{Result}
-use Rattle.client_world.specs.declared.calls.Call.{Call}
-use Rattle.client_world.specs.declared.calls.Call.TheVariants.{Int, Far, Iret, Reflect}
-use Rattle.client_world.specs.declared.calls.Record.{Record}
-use Rattle.client_world.specs.declared.calls.Record.TheVariants.{Sim, Back, Exc}
-use Rattle.client_world.specs.declared.faults.Fault.{Fault}
-use Rattle.client_world.specs.declared.limits.TheConstants.{GREATEST_DEPTH, MAX_CALL_WORDS}
-use Rattle.client_world.specs.declared.memory_map.TheConstants.{ROM_SEGMENT, ROM_START}
-use Rattle.client_world.specs.declared.outcome.Exit.{Exit}
-use Rattle.client_world.specs.declared.outcome.Exit.TheVariants as exits
-use Rattle.client_world.specs.declared.registers.Mode.TheVariants.{Real, Protected}
-use Rattle.client_world.specs.declared.registers.Regs.{Regs}
-use Rattle.client_world.specs.declared.registers.TheConstants.{INTERRUPT_BIT}
-use Rattle.client_world.specs.declared.segments.FarPtr.{FarPtr}
-use Rattle.client_world.specs.declared.segments.SegReg.{SegReg}
-use Rattle.client_world.specs.declared.segments.SegReg.TheVariants.{Es, Cs, Ss, Ds, Fs, Gs}
-use Rattle.client_world.specs.declared.services.Begun.{Begun}
-use Rattle.client_world.specs.declared.services.Begun.TheVariants.{Run, Refused}
-use Rattle.client_world.specs.declared.services.Carry.{Carry}
-use Rattle.client_world.specs.declared.services.Carry.TheVariants.{Clear, Set}
-use Rattle.client_world.specs.declared.traps.TheConstants.{CALL_RETURN_TRAP}
-use Rattle.client_world.specs.Loading.{is_loadable}
-use Rattle.client_world.specs.Registers.{flags_image, has_bit}
-use Rattle.client_world.specs.Segments.{null_pointer}
-use Rattle.client_world.specs.Services.{Served, cx, es_di}
-use Rattle.client_world.specs.World.{World, depth}
+use Rattle.client_world.specs.{declared.calls.Call.{Call}, declared.calls.Call.TheVariants.{Int, Far, Iret, Reflect}}
+use Rattle.client_world.specs.{declared.calls.Record.{Record}, declared.calls.Record.TheVariants.{Sim, Back, Exc}}
+use Rattle.client_world.specs.{declared.faults.Fault.{Fault}, declared.limits.TheConstants.{GREATEST_DEPTH, MAX_CALL_WORDS}}
+use Rattle.client_world.specs.{declared.memory_map.TheConstants.{ROM_SEGMENT, ROM_START}, declared.outcome.Exit.{Exit}}
+use Rattle.client_world.specs.{declared.registers.Mode.TheVariants.{Real, Protected}, declared.registers.Regs.{Regs}}
+use Rattle.client_world.specs.{declared.registers.TheConstants.{INTERRUPT_BIT}, declared.segments.FarPtr.{FarPtr}}
+use Rattle.client_world.specs.{declared.segments.SegReg.{SegReg}, declared.segments.SegReg.TheVariants.{Es, Cs, Ss, Ds, Fs, Gs}}
+use Rattle.client_world.specs.{declared.services.Begun.{Begun}, declared.services.Begun.TheVariants.{Run, Refused}}
+use Rattle.client_world.specs.{declared.services.Carry.{Carry}, declared.services.Carry.TheVariants.{Clear, Set}}
+use Rattle.client_world.specs.{declared.traps.TheConstants.{CALL_RETURN_TRAP}, Loading.{is_loadable}, Registers.{flags_image, has_bit}}
+use Rattle.client_world.specs.{Segments.{null_pointer}, Services.{Served, cx, es_di}, World.{World, depth}}
 use Rattle.guest_ram.specs.Bytes.{word_of}
-use Rattle.guest_space.specs.Dos.{real_vector}
-use Rattle.guest_space.specs.Transfer.{read_result}
+use Rattle.guest_space.specs.{Dos.{real_vector}, Transfer.{read_result}}
 use Rattle.insn_plan.specs.Stack.{stack_pointer_up}
 use Rattle.mode_stack.specs.Stack.{top}
 use Rattle.service_rows.specs.declared.refusal.Refusal.TheVariants.{InvalidAddress, InvalidValue, LinearMemoryUnavailable}
 use Rattle.service_rows.specs.Reasons.{Service, outcome}
-use Rattle.translation.specs.RealStack.{are_writable_words, host_real_stack, with_words_at, words_below}
-use Rattle.translation.specs.Structure.{has_structure, structure_bytes, structure_flags, structure_regs, with_results}
+use Rattle.translation.specs.{RealStack.{are_writable_words, host_real_stack, with_words_at, words_below}, Structure.{has_structure}}
+use Rattle.translation.specs.Structure.{structure_bytes, structure_flags, structure_regs, with_results}
+use Rattle.client_world.specs.declared.outcome.Exit.TheVariants as exits
 
 abbrev pub is_reflection : Call → Bool
 is_reflection (Int n) = false

@@ -2,14 +2,10 @@
 -- that it left. EDI is at 00h, ESI 04h, EBP 08h, EBX 10h, EDX 14h, ECX 18h, EAX 1Ch, the flags 20h, ES 22h, DS 24h, FS 26h, GS 28h, IP 2Ah,
 -- CS 2Ch, SP 2Eh and SS 30h. Source: DPMI 0.9, INT 31h function 0300h.
 use Rattle.std.specs.Prelude.{ℕ, Bool, true, false, ◌&&◌, List, ◌++◌}
-use Rattle.client_world.specs.declared.registers.Regs.{Regs}
-use Rattle.client_world.specs.declared.segments.FarPtr.{FarPtr}
-use Rattle.client_world.specs.Access.{is_reachable}
-use Rattle.client_world.specs.Registers.{flags_image, flags_of_image}
-use Rattle.client_world.specs.World.{World}
+use Rattle.client_world.specs.{declared.registers.Regs.{Regs}, declared.segments.FarPtr.{FarPtr}, Access.{is_reachable}}
+use Rattle.client_world.specs.{Registers.{flags_image, flags_of_image}, World.{World}}
 use Rattle.guest_ram.specs.Bytes.{dword, word_of}
-use Rattle.guest_space.specs.Far.{far_bytes, world_after_far_write, further}
-use Rattle.guest_space.specs.Pending.{number_bytes}
+use Rattle.guest_space.specs.{Far.{far_bytes, world_after_far_write, further}, Pending.{number_bytes}}
 use Rattle.translation.specs.declared.structure.TheConstants.{STRUCTURE_SIZE}
 
 -- there is a structure at a pointer: its bytes can be read and written

@@ -4,26 +4,11 @@ ghost use Rattle.arrayvec.specs.ArrayVec.{array_vec_len};
 ghost use Rattle.client_world.specs.declared.limits.TheConstants.{GREATEST_DEPTH, MAX_CALL_WORDS};
 ghost use Rattle.client_world.specs.declared.memory_map.TheConstants.{SEGMENT_SIZE};
 ghost use Rattle.client_world.specs.declared.registers.Mode.TheVariants.{Protected as protected};
-ghost use Rattle.client_world.specs.declared.services.Begun.TheVariants.{Refused as refused};
-ghost use Rattle.client_world.specs.Services.{cx, es_di};
-ghost use Rattle.client_world.specs.World.{depth};
+ghost use Rattle.client_world.specs.{declared.services.Begun.TheVariants.{Refused as refused}, Services.{cx, es_di}, World.{depth}};
 ghost use Rattle.service_rows.specs.Reasons.{Does};
-ghost use Rattle.translation.specs.SimulatedCall.{
-  are_readable_words,
-  begin_call,
-  call_regs,
-  call_service,
-  call_words,
-  callee_interrupts,
-  callee_regs,
-  callee_stack,
-  callee_start,
-  callee_world,
-  carry_of,
-  is_reflection,
-  return_frame,
-};
-ghost use Rattle.translation.specs.Structure.{structure_bytes, structure_flags, structure_regs};
+ghost use Rattle.translation.specs.SimulatedCall.{are_readable_words, begin_call, call_regs, call_service, call_words, callee_interrupts};
+ghost use Rattle.translation.specs.SimulatedCall.{callee_regs, callee_stack, callee_start, callee_world, carry_of, is_reflection};
+ghost use Rattle.translation.specs.{SimulatedCall.{return_frame}, Structure.{structure_bytes, structure_flags, structure_regs}};
 
 use crate::client_words::{MOST_WORDS, add_client_words};
 use crate::real_stack::{check_stack, host_real_stack, put_words, words_below};

@@ -1,22 +1,15 @@
 // What holds of every call, reflection and return. Each function has nothing to do: its contract is the law.
 ghost use Rattle.std.specs.Prelude.{◌≡◌, ◌≢◌, ℕ, ◌%◌, ◌<◌, true, [], ◌∷◌, ◌++◌, is_none, Ok};
-ghost use Rattle.client_world.specs.declared.calls.Call.{Call};
-ghost use Rattle.client_world.specs.declared.calls.Call.TheVariants.{Reflect};
-ghost use Rattle.client_world.specs.declared.calls.Record.TheVariants.{Sim};
-ghost use Rattle.client_world.specs.declared.memory_map.TheConstants.{SEGMENT_SIZE};
+ghost use Rattle.client_world.specs.{declared.calls.Call.{Call}, declared.calls.Call.TheVariants.{Reflect}};
+ghost use Rattle.client_world.specs.{declared.calls.Record.TheVariants.{Sim}, declared.memory_map.TheConstants.{SEGMENT_SIZE}};
 ghost use Rattle.client_world.specs.declared.registers.Mode.TheVariants.{Protected as protected, Real as real};
-ghost use Rattle.client_world.specs.declared.segments.SegReg.TheVariants.{Ss};
-ghost use Rattle.client_world.specs.declared.services.Carry.TheVariants.{Clear as clear, Set as set};
-ghost use Rattle.client_world.specs.Access.{real_address};
-ghost use Rattle.client_world.specs.Segments.{null_pointer};
-ghost use Rattle.client_world.specs.Services.{es_di};
-ghost use Rattle.client_world.specs.Soundness.{IsSound};
-ghost use Rattle.client_world.specs.World.{World};
+ghost use Rattle.client_world.specs.{declared.segments.SegReg.TheVariants.{Ss}, declared.services.Carry.TheVariants.{Clear as clear}};
+ghost use Rattle.client_world.specs.{declared.services.Carry.TheVariants.{Set as set}, Access.{real_address}, Segments.{null_pointer}};
+ghost use Rattle.client_world.specs.{Services.{es_di}, Soundness.{IsSound}, World.{World}};
 ghost use Rattle.guest_space.specs.Transfer.{access_fault};
 ghost use Rattle.service_rows.specs.Reasons.{HasOtherAx};
 ghost use Rattle.translation.specs.HandOver.{HasBegun, HasEnded, HasReflected, IsPopped, LeftForCallee, LeftForClient};
-ghost use Rattle.translation.specs.RealStack.{is_writable_word};
-ghost use Rattle.translation.specs.SimulatedCall.{begin_call, end_call, reflect};
+ghost use Rattle.translation.specs.{RealStack.{is_writable_word}, SimulatedCall.{begin_call, end_call, reflect}};
 ghost use Rattle.translation.specs.Structure.{structure_bytes};
 
 /// A call, a reflection and a return lead from a sound world to a sound one.

@@ -2,8 +2,7 @@
 ghost use Rattle.std.specs.Prelude.{◌≡◌, ◌≢◌, ◌<◌, ◌≤◌, None, Ok, Err, MatchResult};
 ghost use Rattle.arrayvec.specs.ArrayVec.{array_vec_len};
 ghost use Rattle.client_world.specs.declared.limits.TheConstants.{GREATEST_DEPTH};
-ghost use Rattle.client_world.specs.declared.registers.Mode.TheVariants.{Protected as protected};
-ghost use Rattle.client_world.specs.World.{depth};
+ghost use Rattle.client_world.specs.{declared.registers.Mode.TheVariants.{Protected as protected}, World.{depth}};
 ghost use Rattle.translation.specs.SimulatedCall.{after_reflection, reflect, reflection_regs, reflection_words};
 
 use crate::calling::{DEEPEST, StackWords, callee_regs, callee_start, enter, return_frame};

@@ -1,11 +1,9 @@
 // The return from a simulated call and from a reflected interrupt.
 ghost use Rattle.std.specs.Prelude.{◌≡◌, ◌<◌, ◌-◌, ◌||◌, IsTrue, Ok, Err, MatchResult, take};
-ghost use Rattle.client_world.specs.declared.registers.Mode.TheVariants.{Protected as protected};
-ghost use Rattle.client_world.specs.World.{depth};
+ghost use Rattle.client_world.specs.{declared.registers.Mode.TheVariants.{Protected as protected}, World.{depth}};
 ghost use Rattle.guest_space.specs.Transfer.{HasOtherMemory};
 ghost use Rattle.translation.specs.SimulatedCall.{after_results, after_return, can_go_on, client_regs, end_call, is_reflection};
-ghost use Rattle.translation.specs.SimulatedCall.{still_loadable, with_place_of};
-ghost use Rattle.translation.specs.Structure.{has_structure};
+ghost use Rattle.translation.specs.{SimulatedCall.{still_loadable, with_place_of}, Structure.{has_structure}};
 
 use crate::structure::{has_structure, write_results};
 use client_world::{Call, Exit, FarPtr, Flags, Mode, Record, Regs, SegReg};

@@ -2,9 +2,8 @@
 ghost use Rattle.std.specs.Prelude.{◌≡◌, ◌+◌, IsTrue, false};
 ghost use Rattle.client_world.specs.Access.{is_reachable};
 ghost use Rattle.guest_space.specs.Transfer.{HasOtherMemory};
-ghost use Rattle.translation.specs.declared.structure.TheConstants.{STRUCTURE_SIZE};
-ghost use Rattle.translation.specs.Structure.{has_structure, index_results, other_results, structure_bytes, structure_flags};
-ghost use Rattle.translation.specs.Structure.{structure_regs, with_results};
+ghost use Rattle.translation.specs.{declared.structure.TheConstants.{STRUCTURE_SIZE}, Structure.{has_structure, index_results}};
+ghost use Rattle.translation.specs.Structure.{other_results, structure_bytes, structure_flags, structure_regs, with_results};
 
 use client_world::{FarPtr, Flags, Regs};
 use guest_ram::{doubleword, word};

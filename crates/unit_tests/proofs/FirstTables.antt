@@ -4,11 +4,8 @@ use Rattle.std.proofs.lemmas.Bool.{cases_eq}
 use Rattle.client_world.specs.declared.host_frames.TheConstants.{BUDGET_FRAMES, PAGE_SIZE, TABLE_ENTRIES}
 use Rattle.guest_ram.specs.Bytes.{dword_bytes, put}
 use Rattle.guest_ram.proofs.PutLaws.{put_away}
-use Rattle.page_tables.specs.Mapping.{HasTables, directory_word}
-use Rattle.page_tables.specs.Budget.{IsNamedNowhere, taken_place}
-use Rattle.page_tables.specs.FreeList.{next_free, without_head}
-use Rattle.page_tables.specs.declared.budget.TheConstants.{FREE_LIST_HEAD}
-use Rattle.page_tables.specs.declared.entry.TheConstants.{TABLE_SPAN}
+use Rattle.page_tables.specs.{Mapping.{HasTables, directory_word}, Budget.{IsNamedNowhere, taken_place}, FreeList.{next_free, without_head}}
+use Rattle.page_tables.specs.{declared.budget.TheConstants.{FREE_LIST_HEAD}, declared.entry.TheConstants.{TABLE_SPAN}}
 use Rattle.page_tables.proofs.BlankTables.{dword_zero, names_none}
 
 -- a directory of which entry 0 alone isn't 0

@@ -1,16 +1,11 @@
 -- A client that follows a script, for tests: each of its turns takes a byte of the script, and writes it unless it is a dot; at the end of
 -- the script it exits. Source: own.
 use Rattle.std.specs.Prelude.{◌≡◌, ℕ, ◌+◌, ◌++◌, List, [], ◌∷◌, false, nat_eq, if◌then◌else◌, None, Some, IsSome}
-use Rattle.std.proofs.Common.{ap, refl, sym, append-nil}
 use Rattle.std.specs.declared.option.Option.{Option}
-use Rattle.client_world.specs.declared.outcome.Exit.{Exit}
-use Rattle.client_world.specs.declared.outcome.Exit.TheVariants.{Bound, Exited}
-use Rattle.client_world.specs.declared.registers.Mode.TheVariants.{Real}
-use Rattle.client_world.specs.declared.registers.Flags.{Flags}
-use Rattle.client_world.specs.declared.registers.Regs.{Regs}
-use Rattle.client_world.specs.World.{HostWorld, World}
-use Rattle.client_world.specs.Console.{Extends}
-use Rattle.client_world.specs.WatchWorld.{WatchWorld}
+use Rattle.std.proofs.Common.{ap, refl, sym, append-nil}
+use Rattle.client_world.specs.{declared.outcome.Exit.{Exit}, declared.outcome.Exit.TheVariants.{Bound, Exited}}
+use Rattle.client_world.specs.{declared.registers.Mode.TheVariants.{Real}, declared.registers.Flags.{Flags}, declared.registers.Regs.{Regs}}
+use Rattle.client_world.specs.{World.{HostWorld, World}, Console.{Extends}, WatchWorld.{WatchWorld}}
 
 -- the byte of a turn that writes nothing
 abbrev pub dot : ℕ

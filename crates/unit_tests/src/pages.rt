@@ -1,8 +1,7 @@
 // Page tables of a memory with two budget frames.
 ghost use Rattle.std.specs.Prelude.{◌≡◌, ◌+◌, ◌*◌, ℕ, IfOk, length, slice_index};
 ghost use Rattle.client_world.specs.declared.host_frames.TheConstants.{BUDGET_FRAMES, PAGE_SIZE};
-ghost use Rattle.page_tables.specs.FreeList.{HasFreeList};
-ghost use Rattle.page_tables.specs.Mapping.{HasTables, IsCovered, IsUnmapped};
+ghost use Rattle.page_tables.specs.{FreeList.{HasFreeList}, Mapping.{HasTables, IsCovered, IsUnmapped}};
 ghost use Rattle.unit_tests.specs.declared.pages.TheConstants.{PAGE};
 
 use crate::compare::same;

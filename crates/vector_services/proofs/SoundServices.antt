@@ -1,30 +1,17 @@
 -- A service leads from a sound world to a sound one.
 use Rattle.std.proofs.Common.{◌∙◌, ◌+◌, ◌/◌, ◌%◌, ◌<◌, ℕ, List, arith, slice_set, length-set}
-use Rattle.client_world.specs.declared.memory_map.TheConstants.{ROM_START}
-use Rattle.client_world.specs.declared.segments.FarPtr.{FarPtr}
-use Rattle.client_world.specs.Services.{cx, dx}
-use Rattle.client_world.specs.Soundness.{IsSound, SoundMegabyte}
-use Rattle.client_world.specs.World.{World}
-use Rattle.client_world.proofs.SoundWrites.{IsSound-dos, IsSound-regs, IsSound-vif, SoundMegabyte-set}
+use Rattle.client_world.specs.{declared.memory_map.TheConstants.{ROM_START}, declared.segments.FarPtr.{FarPtr}, Services.{cx, dx}}
+use Rattle.client_world.specs.{Soundness.{IsSound, SoundMegabyte}, World.{World}}
+use Rattle.client_world.proofs.SoundWrites.{IsSound-dos, IsSound-vif, SoundMegabyte-set, sound_general}
 use Rattle.guest_ram.specs.Bytes.{with_word}
+use Rattle.guest_space.specs.Dos.{real_vector_address}
 use Rattle.guest_space.proofs.SoundLists.{IsSound-vectors}
 use Rattle.service_rows.specs.Reasons.{Service, first_reason, unsupported}
 use Rattle.service_rows.proofs.AnswerLaws.{of_answer, sound_ax}
 use Rattle.vector_services.specs.Rows.{vector_function, bl, cx_dx, disable_interrupts, enable_interrupts, get_exception_vector}
-use Rattle.vector_services.specs.Rows.{get_protected_vector, get_real_vector, interrupt_state, real_vector_address, vector_service}
-use Rattle.vector_services.specs.Rows.{set_exception_vector, set_protected_vector, set_real_vector, dpmi_version}
+use Rattle.vector_services.specs.Rows.{get_protected_vector, get_real_vector, interrupt_state, vector_service, set_exception_vector}
+use Rattle.vector_services.specs.Rows.{set_protected_vector, set_real_vector, dpmi_version}
 use Rattle.vector_services.proofs.EachService.{of_each_service}
-
--- general registers hold anything
-sound_general : (w : World) (a b c d : ℕ) → IsSound w → IsSound (record w { regs = record w.regs { eax = a; ebx = b; ecx = c; edx = d } })
-sound_general w a b c d s = IsSound-regs w (record w.regs { eax = a; ebx = b; ecx = c; edx = d }) s (record {
-  es = s.segments.es;
-  cs = s.segments.cs;
-  ss = s.segments.ss;
-  ds = s.segments.ds;
-  fs = s.segments.fs;
-  gs = s.segments.gs;
-})
 
 sound_word : (dos : List ℕ) (at v : ℕ) → SoundMegabyte dos → at + 1 < ROM_START → v < 0x10000 → SoundMegabyte (with_word dos at v)
 sound_word dos at v s below fits =
@@ -32,10 +19,10 @@ sound_word dos at v s below fits =
     (SoundMegabyte-set dos at (v % 0x100) s (omega arith) (omega arith)) below (omega arith)
 
 sound_real : (w : World) → IsSound w →
-    IsSound (record w { dos = with_word (with_word w.dos (real_vector_address w) (dx w)) (real_vector_address w + 2) (cx w) })
-sound_real w s = IsSound-dos w (with_word (with_word w.dos (real_vector_address w) (dx w)) (real_vector_address w + 2) (cx w)) s
-    (sound_word (with_word w.dos (real_vector_address w) (dx w)) (real_vector_address w + 2) (cx w)
-    (sound_word w.dos (real_vector_address w) (dx w) s.megabyte (omega arith) (omega arith)) (omega arith) (omega arith))
+    IsSound (record w { dos = with_word (with_word w.dos (real_vector_address (bl w)) (dx w)) (real_vector_address (bl w) + 2) (cx w) })
+sound_real w s = IsSound-dos w (with_word (with_word w.dos (real_vector_address (bl w)) (dx w)) (real_vector_address (bl w) + 2) (cx w)) s
+    (sound_word (with_word w.dos (real_vector_address (bl w)) (dx w)) (real_vector_address (bl w) + 2) (cx w)
+    (sound_word w.dos (real_vector_address (bl w)) (dx w) s.megabyte (omega arith) (omega arith)) (omega arith) (omega arith))
 
 sound_exception : (w : World) (n : ℕ) (p : FarPtr) → IsSound w →
     IsSound (record w { exception_vectors = slice_set w.exception_vectors n p })
@@ -51,16 +38,16 @@ sound_after : (ax : ℕ) (w : World) → IsSound w → IsSound (vector_function 
 unfolding disable_interrupts enable_interrupts get_exception_vector get_protected_vector get_real_vector interrupt_state
     set_exception_vector set_protected_vector set_real_vector dpmi_version unsupported
 sound_after ax w s = of_each_service (λ (a : Service). IsSound a.after) w (record {
-  f200 = sound_general w w.regs.eax w.regs.ebx _ _ s;
+  f200 = sound_general w w.regs.eax w.regs.ebx _ _ w.regs.esi w.regs.edi s;
   f201 = sound_real w s;
-  f202 = sound_general w w.regs.eax w.regs.ebx _ _ s;
+  f202 = sound_general w w.regs.eax w.regs.ebx _ _ w.regs.esi w.regs.edi s;
   f203 = sound_exception w (bl w) (cx_dx w) s;
-  f204 = sound_general w w.regs.eax w.regs.ebx _ _ s;
+  f204 = sound_general w w.regs.eax w.regs.ebx _ _ w.regs.esi w.regs.edi s;
   f205 = sound_interrupt w (bl w) (cx_dx w) s;
-  f400 = sound_general w _ _ _ _ s;
-  f900 = IsSound-vif _ _ (sound_general w _ w.regs.ebx w.regs.ecx w.regs.edx s);
-  f901 = IsSound-vif _ _ (sound_general w _ w.regs.ebx w.regs.ecx w.regs.edx s);
-  f902 = IsSound-vif _ _ (sound_general w _ w.regs.ebx w.regs.ecx w.regs.edx s);
+  f400 = sound_general w _ _ _ _ w.regs.esi w.regs.edi s;
+  f900 = IsSound-vif _ _ (sound_general w _ w.regs.ebx w.regs.ecx w.regs.edx w.regs.esi w.regs.edi s);
+  f901 = IsSound-vif _ _ (sound_general w _ w.regs.ebx w.regs.ecx w.regs.edx w.regs.esi w.regs.edi s);
+  f902 = IsSound-vif _ _ (sound_general w _ w.regs.ebx w.regs.ecx w.regs.edx w.regs.esi w.regs.edi s);
   other = s;
 }) ax
 

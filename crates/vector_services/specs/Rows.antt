@@ -1,23 +1,16 @@
 -- The services of INT 31h on vectors, on the version and on virtual interrupts. Source: DPMI 0.9, INT 31h functions 0200h to 0205h, 0400h
 -- and 0900h to 0902h; the reasons of refusal are own.
-use Rattle.std.specs.Prelude.{ℕ, ◌+◌, ◌*◌, Bool, true, false, [], ◌∷◌, nat_eq, nat_lt, not, cond, if◌then◌else◌, slice_set}
-use Rattle.client_world.specs.declared.segments.FarPtr.{FarPtr}
-use Rattle.client_world.specs.Registers.{low_byte, with_low_byte, with_low_half}
-use Rattle.client_world.specs.Services.{Served, by_width, cx, dx}
-use Rattle.client_world.specs.World.{World}
+use Rattle.std.specs.Prelude.{ℕ, ◌+◌, Bool, true, false, [], ◌∷◌, nat_eq, nat_lt, not, cond, if◌then◌else◌, slice_set}
+use Rattle.client_world.specs.{declared.segments.FarPtr.{FarPtr}, Registers.{low_byte, with_low_byte, with_low_half}, Services.{Served}}
+use Rattle.client_world.specs.{Services.{by_width, cx, dx}, World.{World}}
 use Rattle.guest_ram.specs.Bytes.{with_word, word_of}
-use Rattle.guest_space.specs.VectorLists.{vector_at}
-use Rattle.service_rows.specs.declared.refusal.Refusal.TheVariants.{InvalidValue, InvalidSelector}
-use Rattle.service_rows.specs.Reasons.{Service, family_outcome, unsupported}
-use Rattle.service_rows.specs.Rows.{is_code_selector, with_by_width}
+use Rattle.guest_space.specs.{Dos.{real_vector_address}, VectorLists.{vector_at}}
+use Rattle.service_rows.specs.{declared.refusal.Refusal.TheVariants.{InvalidValue, InvalidSelector}, Reasons.{Service, family_outcome}}
+use Rattle.service_rows.specs.{Reasons.{unsupported}, Rows.{is_code_selector, with_by_width}}
 
 -- BL holds the number of a vector
 abbrev pub bl : World → ℕ
 bl w = low_byte w.regs.ebx
-
--- the address of real vector BL: its offset, and then its segment
-abbrev pub real_vector_address : World → ℕ
-real_vector_address w = 4 * bl w
 
 -- 0200h: CX:DX is real vector BL
 unfoldable pub get_real_vector : World → Service
@@ -25,8 +18,8 @@ get_real_vector w = record {
   reasons = [];
   after = record w {
     regs = record w.regs {
-      ecx = with_low_half w.regs.ecx (word_of w.dos (real_vector_address w + 2));
-      edx = with_low_half w.regs.edx (word_of w.dos (real_vector_address w));
+      ecx = with_low_half w.regs.ecx (word_of w.dos (real_vector_address (bl w) + 2));
+      edx = with_low_half w.regs.edx (word_of w.dos (real_vector_address (bl w)));
     };
   };
 }
@@ -35,7 +28,7 @@ get_real_vector w = record {
 unfoldable pub set_real_vector : World → Service
 set_real_vector w = record {
   reasons = [];
-  after = record w { dos = with_word (with_word w.dos (real_vector_address w) (dx w)) (real_vector_address w + 2) (cx w) };
+  after = record w { dos = with_word (with_word w.dos (real_vector_address (bl w)) (dx w)) (real_vector_address (bl w) + 2) (cx w) };
 }
 
 -- the pointer in CX:(E)DX, and the world with a pointer there

@@ -1,7 +1,6 @@
 // Laws of all services. The contract of each function is the law; the function does nothing.
 ghost use Rattle.std.specs.Prelude.{ℕ, ◌≡◌};
-ghost use Rattle.client_world.specs.Soundness.{IsSound};
-ghost use Rattle.client_world.specs.World.{World};
+ghost use Rattle.client_world.specs.{Soundness.{IsSound}, World.{World}};
 ghost use Rattle.vector_services.specs.Rows.{vector_service};
 
 /// A service keeps a world sound. Source: own.

@@ -7,7 +7,7 @@ ghost use Rattle.vector_services.specs.Rows.{bl, cx_dx, get_exception_vector, ge
 ghost use Rattle.vector_services.specs.Rows.{set_protected_vector, set_real_vector, with_cx_dx};
 
 use client_world::{FarPtr, by_width, low_byte, low_half, with_low_half};
-use guest_space::Machine;
+use guest_space::{Machine, real_vector_address};
 use service_rows::{Refusal, is_code_selector, with_by_width};
 
 // The greatest number of an exception.
@@ -25,7 +25,7 @@ fn bl(m: &Machine) -> u8
 pub(crate) fn get_real_vector(m: &mut Machine) -> Result<(), Refusal>
     ensures { Does (get_real_vector m.old.world) result m.old m.new }
 {
-    let at = 4 * u32::from(bl(m));
+    let at = real_vector_address(bl(m));
     let mut r = m.regs();
     r.ecx = with_low_half(r.ecx, m.dos16(at + 2));
     r.edx = with_low_half(r.edx, m.dos16(at));
@@ -47,7 +47,7 @@ fn set_word(m: &mut Machine, at: u32, v: u16)
 pub(crate) fn set_real_vector(m: &mut Machine) -> Result<(), Refusal>
     ensures { Does (set_real_vector m.old.world) result m.old m.new }
 {
-    let at = 4 * u32::from(bl(m));
+    let at = real_vector_address(bl(m));
     let r = m.regs();
     set_word(m, at, low_half(r.edx));
     set_word(m, at + 2, low_half(r.ecx));

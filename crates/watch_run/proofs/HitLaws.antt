@@ -1,12 +1,9 @@
 -- Hits, one touch and one handle after another.
 use Rattle.std.proofs.Common.{◌≡◌, ℕ, suc, ◌+◌, ◌-◌, ◌*◌, ◌^◌, ◌<◌, ◌≤◌, Bool, true, false, List, [], ◌∷◌, None, Option, refl, ap, ◌∙◌}
-use Rattle.std.proofs.Common.{drop, length, arith}
+use Rattle.std.proofs.{Common.{drop, length, arith}, lemmas.List.{drop_all, length-drop}, Math.Seq.{drop-cons}, Math.Nat.{pow-suc}}
+use Rattle.std.proofs.Math.Nat.{pow-le-pow_right}
 use Rattle.std.specs.Prelude.{slice_index_or, cond, ◌||◌}
-use Rattle.std.proofs.lemmas.List.{drop_all, length-drop}
-use Rattle.std.proofs.Math.Seq.{drop-cons}
-use Rattle.std.proofs.Math.Nat.{pow-suc, pow-le-pow_right}
-use Rattle.client_world.specs.declared.watchpoints.Touch.{Touch}
-use Rattle.client_world.specs.declared.watchpoints.Watch.{Watch}
+use Rattle.client_world.specs.{declared.watchpoints.Touch.{Touch}, declared.watchpoints.Watch.{Watch}}
 use Rattle.watch_run.specs.Hits.{hit_bits, slot_hit, watches_for, watches_one}
 
 -- ---- touches
@@ -66,7 +63,7 @@ bits_below at touched (slot ∷ slots) =
     let power = pow-suc 2 (length slots) in
     omega (arith, bits_cons at touched slot slots, bits_below at touched slots, most, power)
 
-slot_from : (slots : List (Option Watch)) (i : ℕ) → i < length slots → drop i slots ≡ slice_index_or slots i None ∷ drop (i + 1) slots
+pub slot_from : (slots : List (Option Watch)) (i : ℕ) → i < length slots → drop i slots ≡ slice_index_or slots i None ∷ drop (i + 1) slots
 slot_from slots i within =
     let next : suc i ≡ i + 1 = omega arith in
     drop-cons slots i None within ∙ ap (λ (n : ℕ). slice_index_or slots i None ∷ drop n slots) next

@@ -1,20 +1,14 @@
 -- The touches with which watchpoints are compared are the accesses of the next step.
 use Rattle.std.proofs.Common.{◌≡◌, ◌∙◌, ℕ, List, [], ◌∷◌, ◌++◌, None, Some, ap, refl}
 use Rattle.std.specs.Prelude.{IsErr, IsOk}
-use Rattle.client_world.specs.declared.place.Place.{Place}
-use Rattle.client_world.specs.declared.watchpoints.Touch.{Touch}
-use Rattle.client_world.specs.Access.{places_from}
-use Rattle.client_world.specs.World.{World}
+use Rattle.client_world.specs.{declared.place.Place.{Place}, declared.watchpoints.Touch.{Touch}, Access.{places_from}, World.{World}}
 use Rattle.cpu_step.specs.Step.{view_with_next_eip, client_row, client_step, code, after_instruction, has_big_code, step_of}
 use Rattle.cpu_step.specs.Touched.{touched_by_decoded, touched_by_instruction, touched_by_fetch, touch_places, touched_by_step}
 use Rattle.guest_space.specs.Code.{code_room}
 use Rattle.host_memory.specs.View.{MachineView}
-use Rattle.insn_decode.specs.declared.decoding.Decoded.{Decoded}
-use Rattle.insn_decode.specs.declared.decoding.Decoded.TheVariants.{Invalid, More, Whole}
+use Rattle.insn_decode.specs.{declared.decoding.Decoded.{Decoded}, declared.decoding.Decoded.TheVariants.{Invalid, More, Whole}}
 use Rattle.insn_decode.specs.Decode.{decoded}
-use Rattle.insn_plan.specs.Accesses.{with_next_eip, touches}
-use Rattle.insn_plan.specs.Act.{Act}
-use Rattle.insn_plan.specs.Plan.{after_plan, plan_result}
+use Rattle.insn_plan.specs.{Accesses.{with_next_eip, touches}, Act.{Act}, Plan.{after_plan, plan_result}}
 use Rattle.watch_run.specs.Hits.{next_touches, touches_of_code}
 
 abbrev pub NoneLaw : Type 0

@@ -1,45 +1,27 @@
 -- Hits noted, one handle after another.
 use Rattle.std.proofs.Common.{◌≡◌, ℕ, zero, suc, ◌+◌, ◌<◌, ◌≤◌, Bool, true, false, List, [], ◌∷◌, ◌++◌, None, Some, Option, refl, ap, sym}
-use Rattle.std.proofs.Common.{◌∙◌, append_assoc, drop, take, length, arith}
+use Rattle.std.proofs.{Common.{◌∙◌, append_assoc, drop, take, length, arith}, lemmas.List.{append-nil, drop_all, drop-set-lt}}
+use Rattle.std.proofs.{Math.Seq.{drop-cons, take-suc-set}, Math.Bool.{and-false, or-false, or_assoc}}
 use Rattle.std.specs.Prelude.{slice_index_or, slice_set, not, ◌&&◌, ◌||◌}
-use Rattle.std.proofs.lemmas.List.{append-nil, drop_all, drop-set-lt}
-use Rattle.std.proofs.Math.Seq.{drop-cons, take-suc-set}
-use Rattle.client_world.specs.declared.watchpoints.Touch.{Touch}
-use Rattle.client_world.specs.declared.watchpoints.Watch.{Watch}
+use Rattle.client_world.specs.{declared.watchpoints.Touch.{Touch}, declared.watchpoints.Watch.{Watch}}
 use Rattle.watch_run.specs.Hits.{watches_after_touches, has_first_hit, is_first_hit, watch_after_touches}
-
-or_false : (c : Bool) → (c || false) ≡ c
-or_false true = refl
-or_false false = refl
-
-and_false : (c : Bool) → (c && false) ≡ false
-and_false true = refl
-and_false false = refl
-
-or_assoc : (a b c : Bool) → ((a || b) || c) ≡ (a || (b || c))
-or_assoc true b c = refl
-or_assoc false b c = refl
+use Rattle.watch_run.proofs.HitLaws.{slot_from}
 
 -- an event hits nothing
 pub marked_none : (at : ℕ) (slots : List (Option Watch)) → watches_after_touches at None slots ≡ slots
 marked_none at [] = refl
 marked_none at (None ∷ slots) = cc (marked_none at slots)
 marked_none at (Some x ∷ slots) =
-    ap (λ (c : Bool). Some (record x { hit = c }) ∷ watches_after_touches at None slots) (or_false x.hit)
+    ap (λ (c : Bool). Some (record x { hit = c }) ∷ watches_after_touches at None slots) (or-false x.hit)
     ∙ ap (λ (rest : List (Option Watch)). Some x ∷ rest) (marked_none at slots)
 
 first_none : (at : ℕ) (slots : List (Option Watch)) → has_first_hit at None slots ≡ false
 first_none at [] = refl
 first_none at (None ∷ slots) = first_none at slots
-first_none at (Some x ∷ slots) = ap (λ (c : Bool). c || has_first_hit at None slots) (and_false (not x.hit)) ∙ first_none at slots
+first_none at (Some x ∷ slots) = ap (λ (c : Bool). c || has_first_hit at None slots) (and-false (not x.hit)) ∙ first_none at slots
 
 pub none_due : (at : ℕ) (slots : List (Option Watch)) (due : Bool) → (due || has_first_hit at None slots) ≡ due
-none_due at slots due = ap (λ (c : Bool). due || c) (first_none at slots) ∙ or_false due
-
-slot_from : (slots : List (Option Watch)) (i : ℕ) → i < length slots → drop i slots ≡ slice_index_or slots i None ∷ drop (i + 1) slots
-slot_from slots i within =
-    let next : suc i ≡ i + 1 = omega arith in
-    drop-cons slots i None within ∙ ap (λ (n : ℕ). slice_index_or slots i None ∷ drop n slots) next
+none_due at slots due = ap (λ (c : Bool). due || c) (first_none at slots) ∙ or-false due
 
 after_set : (slots : List (Option Watch)) (k : ℕ) (v : Option Watch) → drop (k + 1) (slice_set slots k v) ≡ drop (k + 1) slots
 after_set slots k v = drop-set-lt (k + 1) slots k v (omega arith)
@@ -91,4 +73,4 @@ end_marked at touched slots k done =
 pub end_due : (at : ℕ) (touched : Option (List Touch)) (slots : List (Option Watch)) (k : ℕ) (due : Bool) → length slots ≤ k →
     (due || has_first_hit at touched (drop k slots)) ≡ due
 end_due at touched slots k due done =
-    ap (λ (more : List (Option Watch)). due || has_first_hit at touched more) (drop_all k slots done) ∙ or_false due
+    ap (λ (more : List (Option Watch)). due || has_first_hit at touched more) (drop_all k slots done) ∙ or-false due

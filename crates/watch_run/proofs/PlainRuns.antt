@@ -1,15 +1,10 @@
 -- Runs in which no function on watchpoints is served.
 use Rattle.std.proofs.Common.{◌≡◌, ℕ, zero, suc, ◌<◌, Bool, true, false, if◌then◌else◌, None, Some, Option, refl, ap, sym, ◌∙◌, arith}
-use Rattle.client_world.specs.declared.outcome.Exit.{Exit}
-use Rattle.client_world.specs.World.{World, HostWorld}
-use Rattle.client_world.specs.WatchWorld.{WatchWorld, Watching, no_watches, host_without_watches}
-use Rattle.host_run.specs.OtherTurns.{int31_call}
-use Rattle.host_run.specs.Run.{with_bound_exit, run, turns}
-use Rattle.host_run.specs.Turn.{after_outcome, turn, with_turn_counted, work}
-use Rattle.watch_run.specs.Hits.{with_hits}
-use Rattle.watch_run.specs.Services.{watch_service}
-use Rattle.watch_run.specs.Turn.{after_watch_call, is_watch_call, run_with_watchpoints, turn_with_watchpoints, after_turn_or_call}
-use Rattle.watch_run.specs.Turn.{turns_with_watchpoints, watches_after}
+use Rattle.client_world.specs.{declared.outcome.Exit.{Exit}, World.{World, HostWorld}, WatchWorld.{WatchWorld, Watching, no_watches}}
+use Rattle.client_world.specs.WatchWorld.{host_without_watches}
+use Rattle.host_run.specs.{OtherTurns.{int31_call}, Run.{with_bound_exit, run, turns}, Turn.{after_outcome, turn, with_turn_counted, work}}
+use Rattle.watch_run.specs.{Hits.{with_hits}, Services.{watch_service}, Turn.{after_watch_call, is_watch_call, run_with_watchpoints}}
+use Rattle.watch_run.specs.Turn.{turn_with_watchpoints, after_turn_or_call, turns_with_watchpoints, watches_after}
 
 nothing_watched : (w : World) → watches_after w no_watches ≡ no_watches
 unfolding watches_after with_hits

@@ -2,9 +2,7 @@
 use Rattle.std.proofs.Common.{arith, ◌≡◌, ◌≤◌, ◌<◌, ◌+◌, ◌-◌, ℕ, None, Some, Option, zero, suc, refl, sym, ◌∙◌, ap, subst, add-zero}
 use Rattle.std.proofs.Common.{add-suc}
 use Rattle.std.specs.Prelude.{IsSome}
-use Rattle.client_world.specs.declared.outcome.Exit.{Exit}
-use Rattle.client_world.specs.WatchWorld.{WatchWorld}
-use Rattle.client_world.specs.World.{HostWorld}
+use Rattle.client_world.specs.{declared.outcome.Exit.{Exit}, WatchWorld.{WatchWorld}, World.{HostWorld}}
 use Rattle.host_run.specs.Run.{with_bound_exit}
 use Rattle.host_run.proofs.Runs.{bounded_ended}
 use Rattle.watch_run.specs.Turn.{run_with_watchpoints, turn_with_watchpoints, turns_with_watchpoints}

@@ -1,22 +1,15 @@
 -- The parts of a turn with watchpoints.
 use Rattle.std.proofs.Common.{◌≡◌, ◌∙◌, ◌+◌, ℕ, Bool, true, false, ◌||◌, List, None, Some, Option, refl, ap, sym, IsTrue}
+use Rattle.std.proofs.Math.Bool.{or-false}
 use Rattle.std.specs.Prelude.{◌&&◌, is_ok, if◌then◌else◌}
-use Rattle.client_world.specs.declared.faults.Fault.{Fault}
-use Rattle.client_world.specs.declared.outcome.Exit.{Exit}
-use Rattle.client_world.specs.declared.registers.Regs.{Regs}
-use Rattle.client_world.specs.declared.services.Carry.{Carry}
-use Rattle.client_world.specs.declared.watchpoints.Watch.{Watch}
-use Rattle.client_world.specs.Registers.{low_half}
-use Rattle.client_world.specs.WatchWorld.{WatchWorld, Watching, no_watches}
-use Rattle.client_world.specs.World.{HostWorld, World}
+use Rattle.client_world.specs.{declared.faults.Fault.{Fault}, declared.outcome.Exit.{Exit}, declared.registers.Regs.{Regs}}
+use Rattle.client_world.specs.{declared.services.Carry.{Carry}, declared.watchpoints.Watch.{Watch}, Registers.{low_half}}
+use Rattle.client_world.specs.{WatchWorld.{WatchWorld, Watching, no_watches}, World.{HostWorld, World}}
 use Rattle.interrupts.specs.Worlds.{world_after_iret}
-use Rattle.host_run.specs.OtherTurns.{exception_turn, int31_at, int31_call, int31_turn, is_int31}
-use Rattle.host_run.specs.declared.traps.Trap.{Trap}
-use Rattle.host_run.specs.declared.traps.Trap.TheVariants.{NoTrap, ProtectedVector}
-use Rattle.host_run.specs.Traps.{current_trap, is_trap}
+use Rattle.host_run.specs.{OtherTurns.{exception_turn, int31_at, int31_call, int31_turn, is_int31}, declared.traps.Trap.{Trap}}
+use Rattle.host_run.specs.{declared.traps.Trap.TheVariants.{NoTrap, ProtectedVector}, Traps.{current_trap, is_trap}}
 use Rattle.host_run.proofs.OtherTurns.{exception_quiet, int31_quiet}
-use Rattle.watch_run.specs.Hits.{has_first_hit, instruction_address, next_touches, with_hits}
-use Rattle.watch_run.specs.Services.{WatchAnswer, is_watch_function}
+use Rattle.watch_run.specs.{Hits.{has_first_hit, instruction_address, next_touches, with_hits}, Services.{WatchAnswer, is_watch_function}}
 use Rattle.watch_run.specs.Turn.{after_watch_call, is_watch_call, turn_touches, watches_after}
 use Rattle.watch_run.proofs.NoteLaws.{marked_none, none_due}
 
@@ -55,14 +48,10 @@ not_called h free = no_call h.exit h.machine free
 
 -- ---- where nothing is watched, and where no instruction runs
 
-or_false : (b : Bool) → (b || false) ≡ b
-or_false true = refl
-or_false false = refl
-
 noted_none : (at : ℕ) (touched : Option _) (s : Watching) → s.watches ≡ no_watches.watches → with_hits at touched s ≡ s
 unfolding with_hits
 noted_none at touched s none =
-    let due = or_false s.due in
+    let due = or-false s.due in
     rw none (ap (λ (b : Bool). let t : Watching = record { watches = no_watches.watches; due = b } in t) due)
 
 pub none_watched : (w : World) (s : Watching) → s.watches ≡ no_watches.watches → watches_after w s ≡ s

@@ -1,35 +1,21 @@
 -- What turns with watchpoints keep, count and write. Each is an exception that delivers a hit, a function that is served, or the host's own
 -- turn.
 use Rattle.std.proofs.Common.{arith, ◌≡◌, ◌≢◌, ◌∙◌, ◌≤◌, ◌+◌, ◌*◌, ℕ, zero, suc, Bool, true, false, ◌||◌, [], None, Some, Option, refl, ap}
-use Rattle.std.proofs.Common.{sym}
-use Rattle.std.proofs.Common.{subst, add-one}
+use Rattle.std.proofs.{Common.{sym, subst, add-one}, lemmas.List.Elements.{All-nil}}
 use Rattle.std.specs.Prelude.{All, IsSome, if◌then◌else◌}
-use Rattle.std.proofs.lemmas.List.Elements.{All-nil}
-use Rattle.client_world.specs.declared.faults.TheConstants.{DEBUG}
-use Rattle.client_world.specs.declared.outcome.Exit.{Exit}
-use Rattle.client_world.specs.declared.outcome.Exit.TheVariants.{ConsoleFull}
-use Rattle.client_world.specs.declared.registers.Regs.{Regs}
-use Rattle.client_world.specs.declared.services.Carry.{Carry}
-use Rattle.client_world.specs.Access.{IsHeld, fault_with}
-use Rattle.client_world.specs.Console.{Extends}
-use Rattle.client_world.specs.Soundness.{IsSound, IsSoundHost}
-use Rattle.client_world.specs.WatchWorld.{WatchWorld, host_without_watches}
-use Rattle.client_world.specs.World.{HostWorld}
+use Rattle.client_world.specs.{declared.faults.TheConstants.{DEBUG}, declared.outcome.Exit.{Exit}}
+use Rattle.client_world.specs.{declared.outcome.Exit.TheVariants.{ConsoleFull}, declared.registers.Regs.{Regs}}
+use Rattle.client_world.specs.{declared.services.Carry.{Carry}, Access.{IsHeld, fault_with}, Console.{Extends}, Soundness.{IsSound}}
+use Rattle.client_world.specs.{Soundness.{IsSoundHost}, WatchWorld.{WatchWorld, host_without_watches}, World.{HostWorld}}
 use Rattle.dos_calls.proofs.LeftCalls.{extends_itself}
-use Rattle.host_run.specs.Keys.{HasKeys}
-use Rattle.host_run.specs.Nested.{Stacked, kept}
-use Rattle.host_run.specs.OtherTurns.{exception_turn, int31_call, int31_turn}
-use Rattle.host_run.specs.RealCalls.{from_client}
-use Rattle.host_run.specs.Touched.{touched_by_turn}
-use Rattle.host_run.specs.Turn.{turn}
-use Rattle.host_run.proofs.Growth.{turn_console, turn_counted}
-use Rattle.host_run.proofs.OtherTurns.{bounded_sound, exception_keeps, exception_quiet, host_sound, int31_keeps_turn, int31_quiet, reached}
-use Rattle.host_run.proofs.Sound.{leaves_itself, machine_by, outside_by}
-use Rattle.host_run.proofs.TurnLaws.{IsReached, KeepsTurn, LeavesBy, turn_keeps}
-use Rattle.watch_run.specs.Services.{watch_service}
-use Rattle.watch_run.specs.Turn.{after_watch_call, after_hit_exception, is_watch_call, delivers_hit, touched_by_watch_turn}
-use Rattle.watch_run.specs.Turn.{turn_with_watchpoints, after_turn_or_call, turns_with_watchpoints, watches_after, watched_run}
-use Rattle.watch_run.specs.Turn.{watched_turns}
+use Rattle.host_run.specs.{Keys.{HasKeys}, Nested.{Stacked, kept}, OtherTurns.{exception_turn, int31_call, int31_turn}}
+use Rattle.host_run.specs.{RealCalls.{from_client}, Touched.{touched_by_turn}, Turn.{turn}}
+use Rattle.host_run.proofs.{Growth.{turn_console, turn_counted}, OtherTurns.{bounded_sound, exception_keeps, exception_quiet, host_sound}}
+use Rattle.host_run.proofs.{OtherTurns.{int31_keeps_turn, int31_quiet, reached}, Sound.{leaves_itself, machine_by, outside_by}}
+use Rattle.host_run.proofs.{TurnLaws.{IsReached, KeepsTurn, LeavesBy, turn_keeps}, Runs.{exit_of}}
+use Rattle.watch_run.specs.{Services.{watch_service}, Turn.{after_watch_call, after_hit_exception, is_watch_call, delivers_hit}}
+use Rattle.watch_run.specs.Turn.{touched_by_watch_turn, turn_with_watchpoints, after_turn_or_call, turns_with_watchpoints, watches_after}
+use Rattle.watch_run.specs.Turn.{watched_run, watched_turns}
 
 -- ---- what each kind of turn has, every turn has
 
@@ -56,10 +42,6 @@ has P w same x y z =
 
 -- ---- the exit, the count of turns and the console
 
-is_some : (o : Option Exit) → IsSome o → (e : Exit) × (o ≡ Some e)
-is_some None some = cc
-is_some (Some e) some = (e, refl)
-
 turn_is : (w : WatchWorld) (o : Option Exit) → w.host.exit ≡ o →
     turn_with_watchpoints w
     ≡ elim o as (λ _. WatchWorld) [ Some _ ↦ w | None ↦ if delivers_hit w then after_hit_exception w else after_turn_or_call w ]
@@ -70,7 +52,7 @@ turn_is w o is =
 
 -- a world with an exit stays as it is
 pub stays : (w : WatchWorld) → IsSome w.host.exit → turn_with_watchpoints w ≡ w
-stays w some = let ended = is_some w.host.exit some in turn_is w (Some ended.0) ended.1
+stays w some = let ended = exit_of w.host.exit some in turn_is w (Some ended.0) ended.1
 
 -- any other turn is counted
 pub counts : (w : WatchWorld) → w.host.exit ≡ None → (turn_with_watchpoints w).host.steps ≡ w.host.steps + 1

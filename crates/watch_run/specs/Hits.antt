@@ -1,18 +1,13 @@
 -- Which watchpoints the next instruction hits. Addresses are compared as linear numbers, before the instruction runs. Source: own.
 use Rattle.std.specs.Prelude.{ℕ, ◌+◌, ◌*◌, Bool, false, cond, not, ◌&&◌, ◌||◌, List, [], ◌∷◌, nat_le, nat_lt, None, Some}
 use Rattle.std.specs.declared.option.Option.{Option}
-use Rattle.client_world.specs.Access.{linear}
-use Rattle.client_world.specs.WatchWorld.{Watching}
-use Rattle.client_world.specs.World.{World}
+use Rattle.client_world.specs.{Access.{linear}, WatchWorld.{Watching}, World.{World}, declared.watchpoints.Touch.{Touch}}
+use Rattle.client_world.specs.{declared.watchpoints.Watch.{Watch}, declared.watchpoints.WatchKind.TheVariants.{Execute, Write, ReadOrWrite}}
 use Rattle.guest_space.specs.SegmentRows.{first_byte}
-use Rattle.insn_decode.specs.declared.decoding.Decoded.{Decoded}
-use Rattle.insn_decode.specs.declared.decoding.Decoded.TheVariants.{Whole, More, Invalid}
+use Rattle.insn_decode.specs.{declared.decoding.Decoded.{Decoded}, declared.decoding.Decoded.TheVariants.{Whole, More, Invalid}}
 use Rattle.insn_decode.specs.Decode.{decoded}
-use Rattle.client_world.specs.declared.watchpoints.Touch.{Touch}
 use Rattle.insn_plan.specs.Accesses.{with_next_eip, touches}
 use Rattle.cpu_step.specs.Step.{has_big_code, code, client_row}
-use Rattle.client_world.specs.declared.watchpoints.Watch.{Watch}
-use Rattle.client_world.specs.declared.watchpoints.WatchKind.TheVariants.{Execute, Write, ReadOrWrite}
 
 -- the touches of what the code bytes are; none where they are no instruction, or it is an event
 abbrev pub touches_of_code : World → Decoded → Option (List Touch)

@@ -2,18 +2,12 @@
 -- Source: DPMI 0.9, INT 31h functions 0B00h to 0B03h; that there are 16 watchpoints without debug registers is own.
 use Rattle.std.specs.Prelude.{ℕ, ◌+◌, ◌-◌, ◌^◌, Bool, false, not, cond, ◌||◌, nat_eq, nat_lt, None, Some, if◌then◌else◌, slice_set}
 use Rattle.std.specs.declared.option.Option.{Option}
-use Rattle.client_world.specs.declared.registers.Regs.{Regs}
-use Rattle.client_world.specs.declared.services.Carry.{Carry}
-use Rattle.client_world.specs.declared.services.Carry.TheVariants.{Clear, Set}
-use Rattle.client_world.specs.Registers.{high_byte, low_byte, low_half, with_low_half}
-use Rattle.client_world.specs.Services.{two_words}
-use Rattle.client_world.specs.declared.watchpoints.Watch.{Watch}
-use Rattle.client_world.specs.declared.watchpoints.WatchKind.{WatchKind}
-use Rattle.client_world.specs.declared.watchpoints.WatchKind.TheVariants.{Execute, Write, ReadOrWrite}
-use Rattle.client_world.specs.WatchWorld.{Watching}
-use Rattle.service_rows.specs.declared.refusal.Refusal.{Refusal}
-use Rattle.service_rows.specs.declared.refusal.Refusal.TheVariants.{HandleUnavailable, InvalidAddress, InvalidHandle, InvalidValue}
-use Rattle.service_rows.specs.Reasons.{refusal_number}
+use Rattle.client_world.specs.{declared.registers.Regs.{Regs}, declared.services.Carry.{Carry}, declared.services.Carry.TheVariants.{Clear}}
+use Rattle.client_world.specs.{declared.services.Carry.TheVariants.{Set}, Registers.{high_byte, low_byte, low_half, with_low_half}}
+use Rattle.client_world.specs.{Services.{two_words}, declared.watchpoints.Watch.{Watch}, declared.watchpoints.WatchKind.{WatchKind}}
+use Rattle.client_world.specs.{declared.watchpoints.WatchKind.TheVariants.{Execute, Write, ReadOrWrite}, WatchWorld.{Watching}}
+use Rattle.service_rows.specs.{declared.refusal.Refusal.{Refusal}, declared.refusal.Refusal.TheVariants.{HandleUnavailable, InvalidAddress}}
+use Rattle.service_rows.specs.{declared.refusal.Refusal.TheVariants.{InvalidHandle, InvalidValue}, Reasons.{refusal_number}}
 use Rattle.watch_run.specs.Watches.{watch_at, lowest_free}
 
 -- what a function returns: the registers, the carry, and the watchpoints after it

@@ -1,26 +1,15 @@
 -- One turn of a host with watchpoints, and runs. A hit sets the watchpoint's status, and in protected mode raises exception 1 in a turn of
 -- its own after the instruction; one in real mode waits for protected mode. Source: own.
 use Rattle.std.specs.Prelude.{ℕ, zero, suc, Bool, true, false, ◌&&◌, ◌||◌, List, [], if◌then◌else◌, None, Some}
-use Rattle.std.specs.declared.option.Option.{Option}
-use Rattle.std.specs.declared.result.Result.{Result}
-use Rattle.client_world.specs.declared.faults.TheConstants.{DEBUG}
-use Rattle.client_world.specs.declared.outcome.Exit.{Exit}
-use Rattle.client_world.specs.declared.registers.Mode.TheVariants.{Real, Protected}
-use Rattle.client_world.specs.declared.watchpoints.Touch.{Touch}
-use Rattle.client_world.specs.Access.{fault_with}
-use Rattle.client_world.specs.declared.place.Place.{Place}
-use Rattle.client_world.specs.WatchWorld.{WatchWorld, Watching, host_without_watches}
+use Rattle.std.specs.{declared.option.Option.{Option}, declared.result.Result.{Result}}
+use Rattle.client_world.specs.{declared.faults.TheConstants.{DEBUG}, declared.outcome.Exit.{Exit}}
+use Rattle.client_world.specs.{declared.registers.Mode.TheVariants.{Real, Protected}, declared.watchpoints.Touch.{Touch}}
+use Rattle.client_world.specs.{Access.{fault_with}, declared.place.Place.{Place}, WatchWorld.{WatchWorld, Watching, host_without_watches}}
 use Rattle.client_world.specs.World.{HostWorld, World}
-use Rattle.host_run.specs.Footprint.{Footprint, at_places, delivery_footprint, turn_footprint}
-use Rattle.host_run.specs.OtherTurns.{exception_turn, int31_call, int31_turn}
-use Rattle.host_run.specs.MakesTurn.{MakesTurn}
-use Rattle.host_run.specs.Run.{with_bound_exit}
-use Rattle.host_run.specs.Touched.{touched_by_turn}
-use Rattle.host_run.specs.Traps.{current_trap, is_trap}
-use Rattle.host_run.specs.Turn.{turn}
-use Rattle.host_run.specs.View.{HostView}
-use Rattle.watch_run.specs.Hits.{instruction_address, next_touches, with_hits}
-use Rattle.watch_run.specs.Services.{WatchAnswer, is_watch_function, watch_service}
+use Rattle.host_run.specs.{Footprint.{Footprint, at_places, delivery_footprint, turn_footprint}, OtherTurns.{exception_turn, int31_call}}
+use Rattle.host_run.specs.{OtherTurns.{int31_turn}, MakesTurn.{MakesTurn}, Run.{with_bound_exit}, Touched.{touched_by_turn}}
+use Rattle.host_run.specs.{Traps.{current_trap, is_trap}, Turn.{turn}, View.{HostView}}
+use Rattle.watch_run.specs.{Hits.{instruction_address, next_touches, with_hits}, Services.{WatchAnswer, is_watch_function, watch_service}}
 
 -- ---- hits
 

@@ -1,8 +1,7 @@
 -- The handles of watchpoints. Source: DPMI 0.9, "Debug Register Support".
 use Rattle.std.specs.Prelude.{ℕ, ◌-◌, Bool, List, None, is_none, ◌||◌, nat_eq, nat_lt, if◌then◌else◌, slice_index_or}
 use Rattle.std.specs.declared.option.Option.{Option}
-use Rattle.client_world.specs.declared.limits.TheConstants.{WATCHES}
-use Rattle.client_world.specs.declared.watchpoints.Watch.{Watch}
+use Rattle.client_world.specs.{declared.limits.TheConstants.{WATCHES}, declared.watchpoints.Watch.{Watch}}
 use Rattle.service_rows.specs.FirstIndex.{first_index}
 
 -- the watchpoint of a handle; the handles are 1 to 16

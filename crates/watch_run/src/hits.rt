@@ -3,19 +3,8 @@ ghost use Rattle.std.specs.Prelude.{◌≡◌, MatchOption, None, Some};
 ghost use Rattle.cpu_step.specs.Step.{client_row};
 ghost use Rattle.insn_forms.specs.Kinds.{IsWellFormed};
 ghost use Rattle.insn_plan.specs.Accesses.{with_next_eip, touches};
-ghost use Rattle.watch_run.specs.Hits.{
-  hits,
-  instruction_address,
-  is_first_hit,
-  is_hit,
-  watch_after_touches,
-  next_touches,
-  with_hits,
-  overlaps,
-  slot_hit,
-  watches_for,
-  watches_one,
-};
+ghost use Rattle.watch_run.specs.Hits.{hits, instruction_address, is_first_hit, is_hit, watch_after_touches, next_touches, with_hits};
+ghost use Rattle.watch_run.specs.Hits.{overlaps, slot_hit, watches_for, watches_one};
 
 use crate::watch::Watches;
 use arrayvec::ArrayVec;

@@ -1,26 +1,15 @@
 // What holds of every turn and run with watchpoints. Each is a function with nothing to do: its contract is the law.
 ghost use Rattle.std.specs.Prelude.{ℕ, ◌≡◌, ◌≢◌, ◌<◌, ◌+◌, ◌++◌, All, IsErr, IsOk, IsSome, List, None, Some, false};
-ghost use Rattle.client_world.specs.declared.outcome.Exit.{Exit as AnExit};
-ghost use Rattle.client_world.specs.declared.outcome.Exit.TheVariants.{ConsoleFull};
-ghost use Rattle.client_world.specs.declared.watchpoints.Touch.{Touch as ATouch};
-ghost use Rattle.client_world.specs.Access.{IsHeld};
-ghost use Rattle.client_world.specs.Console.{Extends};
-ghost use Rattle.client_world.specs.Soundness.{IsSound, IsSoundHost};
-ghost use Rattle.client_world.specs.WatchWorld.{WatchWorld, host_without_watches};
-ghost use Rattle.client_world.specs.World.{HostWorld, World};
-ghost use Rattle.cpu_step.specs.Step.{client_step};
-ghost use Rattle.cpu_step.specs.Touched.{touched_by_fetch, touch_places, touched_by_step};
+ghost use Rattle.client_world.specs.{declared.outcome.Exit.{Exit as AnExit}, declared.outcome.Exit.TheVariants.{ConsoleFull}};
+ghost use Rattle.client_world.specs.{declared.watchpoints.Touch.{Touch as ATouch}, Access.{IsHeld}, Console.{Extends}, Soundness.{IsSound}};
+ghost use Rattle.client_world.specs.{Soundness.{IsSoundHost}, WatchWorld.{WatchWorld, host_without_watches}, World.{HostWorld, World}};
+ghost use Rattle.cpu_step.specs.{Step.{client_step}, Touched.{touched_by_fetch, touch_places, touched_by_step}};
 ghost use Rattle.guest_space.specs.Code.{code_room};
 ghost use Rattle.host_memory.specs.View.{MachineView};
-ghost use Rattle.host_run.specs.HandOver.{HandsOver};
-ghost use Rattle.host_run.specs.Keys.{HasKeys};
-ghost use Rattle.host_run.specs.Nested.{IsHandedOver, Stacked};
-ghost use Rattle.host_run.specs.OtherTurns.{int31_call};
-ghost use Rattle.host_run.specs.RealCalls.{from_client};
-ghost use Rattle.host_run.specs.Run.{run, turns};
-ghost use Rattle.watch_run.specs.Hits.{next_touches};
-ghost use Rattle.watch_run.specs.Turn.{is_watch_call, run_with_watchpoints, touched_by_watch_turn, turn_with_watchpoints, watched_run};
-ghost use Rattle.watch_run.specs.Turn.{watched_turns};
+ghost use Rattle.host_run.specs.{HandOver.{HandsOver}, Keys.{HasKeys}, Nested.{IsHandedOver, Stacked}, OtherTurns.{int31_call}};
+ghost use Rattle.host_run.specs.{RealCalls.{from_client}, Run.{run, turns}};
+ghost use Rattle.watch_run.specs.{Hits.{next_touches}, Turn.{is_watch_call, run_with_watchpoints, touched_by_watch_turn}};
+ghost use Rattle.watch_run.specs.Turn.{turn_with_watchpoints, watched_run, watched_turns};
 
 use cpu_step::{every_touch_is_an_access, only_an_event_has_no_touches};
 use host_run::{every_nested_call_hands_over, every_touch_is_held};

@@ -1,22 +1,9 @@
 // INT 31h functions 0B00h to 0B03h.
 ghost use Rattle.std.specs.Prelude.{◌≡◌, ◌<◌, ◌≤◌, IfOk, IsTrue, MatchOption, MatchResult, None, Some};
-ghost use Rattle.client_world.specs.declared.limits.TheConstants.{WATCHES};
-ghost use Rattle.client_world.specs.Registers.{low_half};
+ghost use Rattle.client_world.specs.{declared.limits.TheConstants.{WATCHES}, Registers.{low_half}};
 ghost use Rattle.service_rows.specs.declared.refusal.Refusal.TheVariants.{InvalidHandle};
-ghost use Rattle.watch_run.specs.Services.{
-  watch_in_bx,
-  clear_watch,
-  described_watch,
-  is_watch_size,
-  is_watch_function,
-  watch_kind,
-  watch_refused,
-  reset_watch,
-  watch_served,
-  set_watch,
-  watch_service,
-  watch_state,
-};
+ghost use Rattle.watch_run.specs.Services.{watch_in_bx, clear_watch, described_watch, is_watch_size, is_watch_function, watch_kind};
+ghost use Rattle.watch_run.specs.Services.{watch_refused, reset_watch, watch_served, set_watch, watch_service, watch_state};
 ghost use Rattle.watch_run.specs.Watches.{lowest_free};
 
 use crate::watch::Watches;

@@ -1,13 +1,9 @@
 // Turns of a host with its client's watchpoints, and runs.
 ghost use Rattle.std.specs.Prelude.{◌≡◌, ◌≤◌, ◌<◌, ◌+◌, IsTrue, None, Some};
 ghost use Rattle.client_world.specs.declared.limits.TheConstants.{MAX_STEPS};
-ghost use Rattle.host_run.specs.MakesTurn.{AnswersBy, turn_answer};
-ghost use Rattle.host_run.specs.OtherTurns.{int31_call};
-ghost use Rattle.host_run.specs.View.{machine_view};
-ghost use Rattle.host_run.specs.Windows.{HasWindow};
-ghost use Rattle.watch_run.specs.Services.{is_watch_function, watch_service};
-ghost use Rattle.watch_run.specs.Turn.{MakesWatchedTurn, after_watch_call, is_watch_call, run_with_watchpoints, delivers_hit};
-ghost use Rattle.watch_run.specs.Turn.{watches_after, watched_run};
+ghost use Rattle.host_run.specs.{MakesTurn.{AnswersBy, turn_answer}, OtherTurns.{int31_call}, View.{machine_view}, Windows.{HasWindow}};
+ghost use Rattle.watch_run.specs.{Services.{is_watch_function, watch_service}, Turn.{MakesWatchedTurn, after_watch_call, is_watch_call}};
+ghost use Rattle.watch_run.specs.Turn.{run_with_watchpoints, delivers_hit, watches_after, watched_run};
 
 use crate::watch::Watches;
 use client_world::faults::DEBUG;

@@ -1,7 +1,6 @@
 // The watchpoints that are held.
 ghost use Rattle.std.specs.Prelude.{◌≡◌, ◌<◌, ◌≤◌, ◌-◌, ◌||◌, IfSome, false, true, length, slice_set};
-ghost use Rattle.client_world.specs.declared.limits.TheConstants.{WATCHES};
-ghost use Rattle.client_world.specs.WatchWorld.{no_watches};
+ghost use Rattle.client_world.specs.{declared.limits.TheConstants.{WATCHES}, WatchWorld.{no_watches}};
 ghost use Rattle.watch_run.specs.Watches.{watch_at};
 
 use client_world::Watch;

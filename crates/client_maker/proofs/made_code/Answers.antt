@@ -1,6 +1,5 @@
 use Rattle.std.proofs.Common.{◌≡◌, ◌+◌, ◌++◌, ap, sym, ◌∙◌, append_assoc, arith}
-use Rattle.client_maker.specs.Pieces.{next_number, number, chosen_piece, pieces}
-use Rattle.client_maker.specs.Made.{entry_code}
+use Rattle.client_maker.specs.{Pieces.{next_number, number, chosen_piece, pieces}, Made.{entry_code}}
 use Rattle.client_maker.proofs.InTurn.{number_next, pieces_next}
 use Rattle.client_maker.proofs.made_code.Goals as goal
 

@@ -1,6 +1,5 @@
 use Rattle.std.proofs.Common.{◌≡◌, ◌≤◌, ◌+◌, ◌*◌, ◌++◌, length}
-use Rattle.client_maker.specs.Pieces.{number, pieces}
-use Rattle.client_maker.specs.Made.{entry_code}
+use Rattle.client_maker.specs.{Pieces.{number, pieces}, Made.{entry_code}}
 use Rattle.client_maker.proofs.made_code.Given as goal
 
 abbrev pub invariant-loop : goal.invariant-loop

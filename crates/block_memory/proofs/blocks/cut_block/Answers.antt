@@ -1,6 +1,5 @@
 use Rattle.std.proofs.Common.{◌≡◌, ◌+◌, ◌-◌, subst, arith, ℕ}
-use Rattle.block_memory.specs.BlockChanges.{HasPagesIn, ReplacesBlock}
-use Rattle.block_memory.specs.BlockSizes.{shorter}
+use Rattle.block_memory.specs.{BlockChanges.{HasPagesIn, ReplacesBlock}, BlockSizes.{shorter}}
 use Rattle.block_memory.proofs.BlockRuns.{Cutting, cutting, cutting_in, cut_all, cut_more}
 use Rattle.block_memory.proofs.blocks.cut_block.Goals as goal
 

@@ -1,6 +1,5 @@
 use Rattle.std.proofs.Common.{◌+◌, ◌∙◌, ℕ, sym, ap, arith, drop, max, min, get_or}
-use Rattle.block_services.proofs.FreeLaws.{largest_is_least}
-use Rattle.block_services.proofs.SpanLaws.{missing, sorted_as, span_within, widest, widest_last, widest_next}
+use Rattle.block_services.proofs.{FreeLaws.{largest_is_least}, SpanLaws.{missing, sorted_as, span_within, widest, widest_last, widest_next}}
 use Rattle.block_services.proofs.gaps.widest_gap.Goals as goal
 
 pub loop-span-preserved : goal.loop-span-preserved

@@ -1,5 +1,4 @@
-use Rattle.std.proofs.Common.{◌∙◌, ap, arith, inl, inr}
-use Rattle.std.specs.Option.{is_some}
+use Rattle.std.proofs.Common.{◌∙◌, arith, inl, inr}
 use Rattle.block_services.proofs.PageLaws.{no_page, page_of_block}
 use Rattle.block_services.proofs.regions.is_blocks.Goals as goal
 
@@ -11,6 +10,5 @@ returns-then-page-2-clause-is c = no_page c.args.m.now.world.blocks _ (inr (omeg
 
 pub returns-clause-is : goal.returns-clause-is
 returns-clause-is c =
-    let way = page_of_block c.args.m.now.world.blocks c.args.m.now.world.budget c.args.page c.soundness.ensures.blocks
-    (omega (arith, c.if-page.false)) (omega (arith, c.if-page-2.false)) in
-    c.is_some.ensures ∙ ap is_some c.block_in_way.ensures ∙ way
+    c.may_touch.ensures
+    ∙ page_of_block c.args.m.now.world.blocks c.args.page (omega (arith, c.if-page.false)) (omega (arith, c.if-page-2.false))

@@ -1,6 +1,5 @@
 use Rattle.std.proofs.Common.{◌∙◌, sym, ap, arith, ◌++◌, List, length}
-use Rattle.block_services.specs.declared.spans.Span.{Span}
-use Rattle.block_services.specs.Spans.{spans_of_row}
+use Rattle.block_services.specs.{declared.spans.Span.{Span}, Spans.{spans_of_row}}
 use Rattle.block_services.proofs.SpanLists.{few_spans, spans_more, spans_none}
 use Rattle.block_services.proofs.spans.held_spans.Goals as goal
 

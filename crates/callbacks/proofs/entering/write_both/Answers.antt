@@ -1,7 +1,6 @@
 use Rattle.std.proofs.Common.{rules}
 use Rattle.callbacks.specs.Callbacks.{with_frame_and_structure}
-use Rattle.guest_space.specs.Far.{world_after_far_write, after_far_write}
-use Rattle.guest_space.specs.Transfer.{with_places}
+use Rattle.guest_space.specs.{Far.{world_after_far_write, after_far_write}, Transfer.{with_places}}
 use Rattle.callbacks.proofs.entering.write_both.Goals as goal
 
 pub returns-clause-written : goal.returns-clause-written

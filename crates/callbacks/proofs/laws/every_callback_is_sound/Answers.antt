@@ -1,5 +1,4 @@
-use Rattle.callbacks.proofs.Served.{sound_serve}
-use Rattle.callbacks.proofs.SoundEntries.{sound_enter, sound_leave}
+use Rattle.callbacks.proofs.{Served.{sound_serve}, SoundEntries.{sound_enter, sound_leave}}
 use Rattle.callbacks.proofs.laws.every_callback_is_sound.Goals as goal
 
 pub returns-clause-serve : goal.returns-clause-serve

@@ -1,6 +1,5 @@
 use Rattle.std.proofs.Common.{◌<◌, ◌-◌, ◌%◌, ◌^◌, ◌∙◌, ap, refl, arith}
-use Rattle.cpu_alu.specs.Shifts.{bits_moved}
-use Rattle.cpu_alu.specs.Packed.{turned}
+use Rattle.cpu_alu.specs.{Shifts.{bits_moved}, Packed.{turned}}
 use Rattle.cpu_alu.proofs.Rotates.{ror_bits, IsWidth-pos}
 use Rattle.cpu_alu.proofs.packed.rotated_right.Goals as goal
 

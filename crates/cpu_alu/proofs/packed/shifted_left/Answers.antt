@@ -1,5 +1,4 @@
-use Rattle.std.proofs.Common.{◌*◌, ◌^◌, ◌∙◌, ap, arith}
-use Rattle.std.proofs.lemmas.Nat.{shl_whole}
+use Rattle.std.proofs.{Common.{◌*◌, ◌^◌, ◌∙◌, ap, arith}, lemmas.Nat.{shl_whole}}
 use Rattle.cpu_alu.specs.Packed.{from_above}
 use Rattle.cpu_alu.proofs.Moves.{shl_bits, double_width}
 use Rattle.cpu_alu.proofs.packed.shifted_left.Goals as goal

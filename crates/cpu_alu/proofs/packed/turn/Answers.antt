@@ -1,5 +1,4 @@
-use Rattle.std.proofs.Common.{◌<◌, ◌-◌, ◌%◌, ◌^◌, refl, arith}
-use Rattle.std.proofs.lemmas.Nat.{one_shl, shl_whole, mod_below, pow_pos, pow_below}
+use Rattle.std.proofs.{Common.{◌<◌, ◌-◌, ◌%◌, ◌^◌, refl, arith}, lemmas.Nat.{one_shl, shl_whole, mod_below, pow_pos, pow_below}}
 use Rattle.cpu_alu.specs.Packed.{turned}
 use Rattle.cpu_alu.proofs.Turns.{turned_below_all}
 use Rattle.cpu_alu.proofs.packed.turn.Goals as goal

@@ -1,6 +1,5 @@
 use Rattle.std.proofs.Common.{◌≡◌, ◌-◌, ℕ}
-use Rattle.client_world.specs.declared.host_frames.TheConstants.{DESCRIPTORS}
-use Rattle.client_world.specs.Selector.{row_at_index}
+use Rattle.client_world.specs.{declared.host_frames.TheConstants.{DESCRIPTORS}, Selector.{row_at_index}}
 use Rattle.service_rows.specs.FirstIndex.{first_index}
 use Rattle.desc_services.specs.Rows.{is_segment_row}
 use Rattle.desc_services.proofs.segment.segment_index.Given as goal

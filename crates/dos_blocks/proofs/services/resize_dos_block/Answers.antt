@@ -1,11 +1,7 @@
 use Rattle.std.proofs.Common.{◌≡◌, ◌∙◌, ap, sym, arith, ℕ, true}
-use Rattle.client_world.specs.declared.dos_memory.DosEntry.{DosEntry}
-use Rattle.client_world.specs.Selector.{index_of}
+use Rattle.client_world.specs.{declared.dos_memory.DosEntry.{DosEntry}, Selector.{index_of}}
 use Rattle.dos_blocks.specs.Blocks.{missing_entry, entry_of_place, has_room_to_grow, run_of_block}
-use Rattle.dos_blocks.proofs.BlockRuns.{can_resize_named}
-use Rattle.dos_blocks.proofs.CallLaws.{has_room}
-use Rattle.dos_blocks.proofs.Founds.{found_block}
-use Rattle.dos_blocks.proofs.NeighbourLaws.{entry_within}
+use Rattle.dos_blocks.proofs.{BlockRuns.{can_resize_named}, CallLaws.{has_room}, Founds.{found_block}, NeighbourLaws.{entry_within}}
 use Rattle.dos_blocks.proofs.services.resize_dos_block.Goals as goal
 
 pub arena-entry-requires : goal.arena-entry-requires

@@ -1,6 +1,6 @@
 use Rattle.client_world.specs.declared.memory_map.TheConstants.{SEGMENT_SIZE}
-use Rattle.dos_calls.proofs.ConsoleLaws.{nothing_added, byte_added, byte_refused, all_added}
-use Rattle.dos_calls.proofs.ByteLaws.{text_all, text_next, text_end, text_none}
+use Rattle.dos_calls.proofs.{ConsoleLaws.{nothing_added, byte_added, byte_refused, all_added}, ByteLaws.{text_all, text_next, text_end}}
+use Rattle.dos_calls.proofs.ByteLaws.{text_none}
 use Rattle.dos_calls.proofs.bytes.print_text.Goals as goal
 
 pub loop-n-init : goal.loop-n-init

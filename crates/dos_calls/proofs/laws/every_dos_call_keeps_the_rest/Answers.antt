@@ -1,5 +1,4 @@
-use Rattle.dos_calls.specs.Calls.{dos_call}
-use Rattle.dos_calls.specs.Multiplex.{multiplex_call}
+use Rattle.dos_calls.specs.{Calls.{dos_call}, Multiplex.{multiplex_call}}
 use Rattle.dos_calls.proofs.LeftCalls.{call_leaves, multiplex_leaves, multiplex_regs, other_dos_memory, same_stack}
 use Rattle.dos_calls.proofs.laws.every_dos_call_keeps_the_rest.Goals as goal
 

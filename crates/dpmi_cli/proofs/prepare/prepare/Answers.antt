@@ -1,9 +1,7 @@
-use Rattle.std.proofs.Common.{◌≡◌, ◌∙◌, map, string_bytes, sym, ap, refl}
+use Rattle.std.proofs.{Common.{◌≡◌, ◌∙◌, map, string_bytes, sym, ap, refl}, lemmas.Result.{IfOk-weaker}}
 use Rattle.std.specs.Prelude.{Some, None, option_map}
-use Rattle.std.proofs.lemmas.Result.{IfOk-weaker}
 use Rattle.dpmi_words.specs.Meaning.{Pairs, Runs, Soaks, meaning, meaning_in, pair_in, run_in}
-use Rattle.dpmi_cli.proofs.Files.{meaning_comes, sure_comes}
-use Rattle.dpmi_cli.proofs.Ranges.{pair_ranges, run_ranges}
+use Rattle.dpmi_cli.proofs.{Files.{meaning_comes, sure_comes}, Ranges.{pair_ranges, run_ranges}}
 use Rattle.dpmi_cli.proofs.prepare.prepare.Goals as goal
 
 pub prepare_run-requires : goal.prepare_run-requires

@@ -1,5 +1,4 @@
-use Rattle.std.proofs.Common.{arith}
-use Rattle.std.proofs.lemmas.Grind.{common_steps}
+use Rattle.std.proofs.{Common.{arith}, lemmas.Grind.{common_steps}}
 use Rattle.dpmi_io.proofs.Input.{given_rest}
 use Rattle.dpmi_io.proofs.open_file.give.Goals as goal
 

@@ -1,7 +1,6 @@
 use Rattle.std.proofs.Common.{◌≡◌}
 use Rattle.dpmi_io.specs.Content.{Gains}
-use Rattle.dpmi_report.specs.Lines.{block_row}
-use Rattle.dpmi_report.specs.Rows.{up_to}
+use Rattle.dpmi_report.specs.{Lines.{block_row}, Rows.{up_to}}
 use Rattle.dpmi_report.proofs.blocks.put_block_rows.Given as goal
 
 abbrev pub invariant-loop-place : goal.invariant-loop-place

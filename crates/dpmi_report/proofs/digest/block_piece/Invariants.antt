@@ -1,7 +1,6 @@
 use Rattle.std.proofs.Common.{◌≡◌, ◌<◌, ◌+◌, ℕ, length}
 use Rattle.std.specs.List.{slice_index_or}
-use Rattle.client_world.specs.Access.{bytes_of_block}
-use Rattle.client_world.specs.World.{block_at}
+use Rattle.client_world.specs.{Access.{bytes_of_block}, World.{block_at}}
 use Rattle.dpmi_report.proofs.digest.block_piece.Given as goal
 
 abbrev pub invariant-loop-i : goal.invariant-loop-i

@@ -1,5 +1,4 @@
-use Rattle.std.proofs.Common.{arith, ◌∙◌}
-use Rattle.std.proofs.lemmas.List.{length-set}
+use Rattle.std.proofs.{Common.{arith, ◌∙◌}, lemmas.List.{length-set}}
 use Rattle.dpmi_report.proofs.Pieces.{byte_more, piece_is}
 use Rattle.dpmi_report.proofs.digest.dos_piece.Goals as goal
 

@@ -17,7 +17,7 @@ returns c =
       c.new-line.ensures,
       c.origin_name.ensures.name,
       c.byte_limit.ensures,
-      c.access_and_flags-access.ensures.access,
-      c.access_and_flags-access.ensures.flags,
+      c.access_byte.ensures,
+      c.flags_byte.ensures,
     )
     (search append_assoc)

@@ -1,7 +1,6 @@
 use Rattle.std.proofs.Common.{◌≡◌}
 use Rattle.dpmi_io.specs.Content.{Gains}
-use Rattle.dpmi_report.specs.Rows.{up_to}
-use Rattle.dpmi_report.specs.Trace.{trace_row}
+use Rattle.dpmi_report.specs.{Rows.{up_to}, Trace.{trace_row}}
 use Rattle.dpmi_report.proofs.parts.put_first_events.Given as goal
 
 abbrev pub invariant-loop-i : goal.invariant-loop-i

@@ -1,7 +1,6 @@
 use Rattle.std.proofs.Common.{◌≡◌}
 use Rattle.dpmi_io.specs.Content.{Gains}
-use Rattle.dpmi_report.specs.Lines.{desc_row}
-use Rattle.dpmi_report.specs.Rows.{up_to}
+use Rattle.dpmi_report.specs.{Lines.{desc_row}, Rows.{up_to}}
 use Rattle.dpmi_report.proofs.parts.put_rows.Given as goal
 
 abbrev pub invariant-loop-index : goal.invariant-loop-index

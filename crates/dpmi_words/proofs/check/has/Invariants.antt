@@ -1,6 +1,5 @@
 use Rattle.std.proofs.Common.{◌≡◌, drop}
-use Rattle.dpmi_words.specs.Reading.{has_given}
-use Rattle.dpmi_words.specs.Seen.{pairs}
+use Rattle.dpmi_words.specs.{Reading.{has_given}, Seen.{pairs}}
 use Rattle.dpmi_words.proofs.check.has.Given as goal
 
 abbrev pub invariant-loop-g : goal.invariant-loop-g

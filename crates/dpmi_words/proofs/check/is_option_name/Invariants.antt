@@ -1,6 +1,5 @@
 use Rattle.std.proofs.Common.{◌≡◌, drop}
-use Rattle.dpmi_words.specs.Reading.{is_option_name}
-use Rattle.dpmi_words.specs.Seen.{names_of}
+use Rattle.dpmi_words.specs.{Reading.{is_option_name}, Seen.{names_of}}
 use Rattle.dpmi_words.proofs.check.is_option_name.Given as goal
 
 abbrev pub invariant-loop-option : goal.invariant-loop-option

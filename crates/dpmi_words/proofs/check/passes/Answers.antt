@@ -1,8 +1,6 @@
 use Rattle.std.proofs.Common.{◌∙◌, sym, ap}
-use Rattle.std.specs.Prelude.{option_and_then, is_some, Some, None}
-use Rattle.std.specs.String.{string_bytes}
-use Rattle.dpmi_words.specs.Reading.{step, finished}
-use Rattle.dpmi_words.specs.Seen.{names_of, reading_of}
+use Rattle.std.specs.{Prelude.{option_and_then, is_some, Some, None}, String.{string_bytes}}
+use Rattle.dpmi_words.specs.{Reading.{step, finished}, Seen.{names_of, reading_of}}
 use Rattle.dpmi_words.proofs.InTurn.{word_taken, words_done}
 use Rattle.dpmi_words.proofs.check.passes.Goals as goal
 

@@ -1,7 +1,6 @@
 use Rattle.std.proofs.Common.{◌≡◌, drop, map}
 use Rattle.std.specs.String.{string_bytes}
-use Rattle.dpmi_words.specs.Reading.{nothing_read, reads}
-use Rattle.dpmi_words.specs.Seen.{names_of, texts, reading_of}
+use Rattle.dpmi_words.specs.{Reading.{nothing_read, reads}, Seen.{names_of, texts, reading_of}}
 use Rattle.dpmi_words.proofs.check.passes.Given as goal
 
 abbrev pub invariant-loop-word : goal.invariant-loop-word

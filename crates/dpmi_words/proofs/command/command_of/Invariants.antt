@@ -1,8 +1,7 @@
 use Rattle.std.proofs.Common.{◌≡◌, drop}
 use Rattle.std.specs.List.{fold}
 use Rattle.clap.specs.Simple.{app_of}
-use Rattle.dpmi_words.specs.Command.{with_operand, with_option, quiet_app}
-use Rattle.dpmi_words.specs.Seen.{names_of, texts}
+use Rattle.dpmi_words.specs.{Command.{with_operand, with_option, quiet_app}, Seen.{names_of, texts}}
 use Rattle.dpmi_words.proofs.command.command_of.Given as goal
 
 abbrev pub invariant-loop-row : goal.invariant-loop-row

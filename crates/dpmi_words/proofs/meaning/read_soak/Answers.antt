@@ -1,6 +1,5 @@
 use Rattle.std.proofs.Common.{codes, sym, subst}
-use Rattle.dpmi_words.specs.Command.{TakesItsWords, command_app}
-use Rattle.dpmi_words.specs.Reading.{one_operand}
+use Rattle.dpmi_words.specs.{Command.{TakesItsWords, command_app}, Reading.{one_operand}}
 use Rattle.dpmi_words.proofs.Commands.{soak_takes_words}
 use Rattle.dpmi_words.proofs.meaning.read_soak.Goals as goal
 

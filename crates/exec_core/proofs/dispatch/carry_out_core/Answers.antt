@@ -1,9 +1,7 @@
-use Rattle.std.proofs.Common.{◌≡◌, true, refl, arith}
-use Rattle.std.proofs.lemmas.Bool.{false_from_ne_true}
-use Rattle.insn_forms.specs.declared.insn.Op.{Op}
-use Rattle.insn_forms.specs.declared.insn.Op.TheVariants as ops
-use Rattle.insn_forms.specs.declared.insn.Operand.{Operand}
+use Rattle.std.proofs.{Common.{◌≡◌, true, refl, arith}, lemmas.Bool.{false_from_ne_true}}
+use Rattle.insn_forms.specs.{declared.insn.Op.{Op}, declared.insn.Operand.{Operand}}
 use Rattle.exec_core.specs.Dispatch.{is_core}
+use Rattle.insn_forms.specs.declared.insn.Op.TheVariants as ops
 use Rattle.exec_core.proofs.dispatch.carry_out_core.Goals as goal
 
 -- an operation that no arm takes is none of this crate

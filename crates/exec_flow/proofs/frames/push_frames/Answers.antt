@@ -1,5 +1,4 @@
-use Rattle.std.proofs.Common.{◌≡◌, ◌∙◌, ◌+◌, ◌-◌, suc, Err, ap, arith, sym}
-use Rattle.std.proofs.lemmas.Result.{err_from_is_err_and}
+use Rattle.std.proofs.{Common.{◌≡◌, ◌∙◌, ◌+◌, ◌-◌, suc, Err, ap, arith, sym}, lemmas.Result.{err_from_is_err_and}}
 use Rattle.exec_flow.proofs.FrameReads.{frames_next, frames_stop, frames_end}
 use Rattle.exec_flow.proofs.frames.push_frames.Goals as goal
 

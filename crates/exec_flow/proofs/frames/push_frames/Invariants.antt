@@ -1,7 +1,6 @@
 use Rattle.std.proofs.Common.{◌≡◌, ◌+◌, ◌-◌, length}
 use Rattle.exec_flow.specs.Frames.{push_saved_frames}
-use Rattle.insn_plan.specs.Act.{Act, Pending}
-use Rattle.insn_plan.specs.Plan.{plan_result}
+use Rattle.insn_plan.specs.{Act.{Act, Pending}, Plan.{plan_result}}
 use Rattle.exec_flow.proofs.frames.push_frames.Given as goal
 
 -- what is left after k levels is the whole, for whatever follows

@@ -5,9 +5,9 @@ use Rattle.guest_ram.proofs.Steps.{split, join, feq_i, rewrite, regoal, suffices
 use Rattle.guest_ram.proofs.Steps.{first, blocks, branches, skips, exec, returns, alloc_all, pass_all, free_all, look_at, get, through}
 use Rattle.guest_ram.proofs.Steps.{sets, env, u8, yes, uint_in, uint_vals, uint_Tells, Ptr, RawPtr, block_ptr, in_a_block, rawptr_vals}
 use Rattle.guest_ram.proofs.Steps.{rawptr_Tells, plain, nothing, on_entry, Stays, walk_of, stay_dropped, Goes-dropped, ends_at}
-use Rattle.std.proofs.Common.{◌+◌, ◌-◌, ◌<◌, ◌^◌, suc, replicate, ◌++◌, add_comm, add-zero, w64, ltb→lt}
-use Rattle.std.proofs.lemmas.List.{length-replicate, replicate-append-replicate}
-use mathlib.Core.WellFounded.InvImage
+use Rattle.guest_ram.proofs.{ByteCells.{row_more, row_whole}, ram.put_zeros.Statement.{statement}}
+use Rattle.std.proofs.{Common.{◌+◌, ◌-◌, ◌<◌, ◌^◌, suc, replicate, ◌++◌, add_comm, add-zero, w64, ltb→lt}, lemmas.List.{length-replicate}}
+use Rattle.std.proofs.{lemmas.List.{replicate-append-replicate}, VecSteps.Shapes.{after, head}}
 use lib.WfN.{lt-wf_rel}
 use seplogic.Ra.Ura.{Ura}
 use mir.Syntax.{Body, ty_array}
@@ -25,12 +25,9 @@ use denote.Index.{row}
 use denote.Memory.{part_at}
 use denote.RawPtr.{lies_at, room_for}
 use contract.Running.{tables_of}
-use Rattle.std.proofs.VecSteps.Shapes.{after, head}
-use Rattle.guest_ram.specs.Listed.{zeros}
-use Rattle.guest_ram.specs.Owned.{bytes_type}
-use Rattle.guest_ram.proofs.ByteCells.{row_more, row_whole}
+use Rattle.guest_ram.specs.{Listed.{zeros}, Owned.{bytes_type}}
+use mathlib.Core.WellFounded.InvImage
 use Rattle.guest_ram.specs.contracts.ram.put_zeros as f
-use Rattle.guest_ram.proofs.ram.put_zeros.Statement.{statement}
 use Rattle.guest_ram.proofs.ram.put_zeros.Code as code
 
 abbrev stayed : Stays f.ended.signature.params f.ended.kept

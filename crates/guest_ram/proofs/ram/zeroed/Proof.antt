@@ -5,15 +5,14 @@ use Rattle.guest_ram.proofs.Steps.{split, join, fsplit, fjoin, fpick, fpack, feq
 use Rattle.guest_ram.proofs.Steps.{bin, lit, load, look, stop, fld, no_more, and_then, first, blocks, exec, returns, alloc_all, pass_all}
 use Rattle.guest_ram.proofs.Steps.{free_all, look_at, get, through, sets, lands_as, env, u8, unit, yes, uint_vals, uint_Tells, Ptr}
 use Rattle.guest_ram.proofs.Steps.{block_ptr, lies_at, in_a_block, plain, nothing, owned, heard, only, calls_at, triple_of, Stays, walk_of}
-use Rattle.guest_ram.proofs.Steps.{says, stay_dropped, Goes-dropped, ends_at, framed}
-use Rattle.std.proofs.Common.{◌*◌, ◌<◌, ◌^◌, ◌++◌, length, w32, w64, subst, T, Bool, true, false, Ok, Err, IfOk}
-use Rattle.std.proofs.VecSteps.Shapes.{after, head, arm_body}
-use Rattle.std.proofs.alloc.Calls.{Al, Answer, Answer-typed, Answered, answer_val, answers, got, token}
-use Rattle.std.proofs.RcSteps.{first_Good}
-use Rattle.std.proofs.ResultValues.{ok_of, err_of}
-use Rattle.std.specs.Allocator.{block_if_ok}
-use Rattle.std.specs.contracts.impls.GlobalAllocator.TheImpl.{ghosts, dict}
-use Rattle.std.proofs.Handle.{sees, seen}
+use Rattle.guest_ram.proofs.{Steps.{says, stay_dropped, Goes-dropped, ends_at, framed}, ListedLaws.{length-zeros}, FitLaws.{fit-zeros}}
+use Rattle.guest_ram.proofs.{WalkSteps.{big_lit}, Insides.{Held, Words, fields_made}, ram.Ram.TheInside.TheLaws.{lowers}}
+use Rattle.guest_ram.proofs.ram.zeroed.Statement.{statement}
+use Rattle.std.proofs.{Common.{◌*◌, ◌<◌, ◌^◌, ◌++◌, length, w32, w64, subst, T, Bool, true, false, Ok, Err, IfOk}, VecSteps.Shapes.{after}}
+use Rattle.std.proofs.{VecSteps.Shapes.{head, arm_body}, alloc.Calls.{Al, Answer, Answer-typed, Answered, answer_val, answers, got, token}}
+use Rattle.std.proofs.{RcSteps.{first_Good, Good}, ResultValues.{ok_of, err_of}, Handle.{sees, seen}}
+use Rattle.std.proofs.impls.GlobalAllocator.allocate.Met.{met}
+use Rattle.std.specs.{Allocator.{block_if_ok}, contracts.impls.GlobalAllocator.TheImpl.{ghosts, dict}}
 use seplogic.Ra.Ura.{Ura}
 use mir.Syntax.{Body, Ty, ty_unit}
 use mir.Val.{vptr, vcons, vnil, vstruct, of_list, has_ty, WT}
@@ -40,30 +39,19 @@ use denote.Laws.{Is}
 use denote.Param.{layout}
 use denote.Struct.Struct.{Struct, Struct-Makes}
 use denote.Struct.Owning.{to}
+use denote.Triple.Call.{calls_at_last}
+use Rattle.guest_ram.specs.{Listed.{zeros}, Owned.{bytes_type}, contracts.ram.Ram.{the_row as R}}
+use Rattle.guest_ram.specs.{contracts.ram.Ram.TheInside.{the_row as F}, declared.ram.Ram.TheInside.{Inside}}
 use Rattle.guest_ram.specs.contracts.ram.Ram.TheInside as IN
 use denote.Struct.Declared as Declared
-use denote.Triple.Call.{calls_at_last}
 use Rattle.std.specs.contracts.prelude.Result as RS
 use Rattle.std.specs.contracts.alloc.AllocError as AE
-use Rattle.std.proofs.RcSteps.{Good}
-use Rattle.guest_ram.proofs.ListedLaws.{length-zeros}
-use Rattle.guest_ram.proofs.FitLaws.{fit-zeros}
 use Rattle.std.specs.contracts.alloc.Global as GC
 use Rattle.std.proofs.alloc.Global.TheLaws as GL
 use Rattle.std.specs.contracts.impls.GlobalAllocator.allocate as g
-use Rattle.std.proofs.impls.GlobalAllocator.allocate.Met.{met}
-use Rattle.guest_ram.specs.Listed.{zeros}
-use Rattle.guest_ram.specs.Owned.{bytes_type}
-use Rattle.guest_ram.proofs.WalkSteps.{big_lit}
-use Rattle.guest_ram.proofs.Insides.{Held, Words, fields_made}
 use Rattle.guest_ram.specs.contracts.ram.put_zeros as put
 use Rattle.guest_ram.proofs.ram.put_zeros.Met as put_met
-use Rattle.guest_ram.specs.contracts.ram.Ram.{the_row as R}
-use Rattle.guest_ram.specs.contracts.ram.Ram.TheInside.{the_row as F}
-use Rattle.guest_ram.specs.declared.ram.Ram.TheInside.{Inside}
-use Rattle.guest_ram.proofs.ram.Ram.TheInside.TheLaws.{lowers}
 use Rattle.guest_ram.specs.contracts.ram.zeroed as f
-use Rattle.guest_ram.proofs.ram.zeroed.Statement.{statement}
 use Rattle.guest_ram.proofs.ram.zeroed.Code as code
 
 abbrev Handle : RattleType

@@ -1,5 +1,4 @@
-use Rattle.std.proofs.Common.{ap, ◌∙◌, List, ℕ, arith}
-use Rattle.std.specs.Int.{w64, from_le_bytes}
+use Rattle.std.proofs.Common.{arith}
 use Rattle.guest_space.proofs.CodeRuns.{words_of_region}
 use Rattle.guest_space.proofs.code.words_of.Goals as goal
 

@@ -1,5 +1,4 @@
-use Rattle.std.proofs.Common.{sym, ◌∙◌, arith, refl, inl, inr}
-use Rattle.host_memory.specs.DosList.{entry_room}
+use Rattle.std.proofs.Common.{arith}
 use Rattle.guest_space.proofs.ArenaReads.{counted}
 use Rattle.guest_space.proofs.dos.entry_count.Goals as goal
 

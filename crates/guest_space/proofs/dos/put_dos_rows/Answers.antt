@@ -1,4 +1,4 @@
-use Rattle.std.proofs.Common.{◌∙◌, sym, refl, arith}
+use Rattle.std.proofs.Common.{sym, refl, arith}
 use Rattle.guest_space.proofs.DosRows.{row_put_next, run_bytes_none}
 use Rattle.guest_space.proofs.dos.put_dos_rows.Goals as goal
 

@@ -1,14 +1,11 @@
-use Rattle.std.proofs.Common.{◌≡◌, ◌+◌, ◌∙◌, sym, ap, subst, arith, refl, ℕ, List, length}
+use Rattle.std.proofs.Common.{◌≡◌, ◌+◌, ap, arith, refl, List, length}
 use Rattle.client_world.specs.declared.dos_memory.DosEntry.{DosEntry}
-use Rattle.client_world.specs.DosMemory.{IsArena}
 use Rattle.guest_ram.proofs.PutLaws.{length-put}
-use Rattle.host_memory.specs.DosList.{arena_in}
-use Rattle.host_memory.specs.Layout.{arena_part}
-use Rattle.guest_space.specs.Arena.{with_replaced_entries, arena_bytes}
-use Rattle.guest_space.proofs.ArenaLists.{length-arena_in}
-use Rattle.guest_space.proofs.ArenaReads.{list_start}
-use Rattle.guest_space.proofs.ArenaSplices.{length-spliced}
-use Rattle.guest_space.proofs.ArenaWrites.{splice_fits, arena_after, count_after, replaced_is, written_is}
+use Rattle.host_memory.specs.{DosList.{arena_in}, Layout.{arena_part}}
+use Rattle.guest_space.specs.Arena.{with_replaced_entries}
+use Rattle.host_memory.proofs.ListsClaim.{length-arena_in}
+use Rattle.guest_space.proofs.{ArenaReads.{list_start}, ArenaSplices.{length-spliced}, ArenaWrites.{splice_fits, arena_after, count_after}}
+use Rattle.guest_space.proofs.ArenaWrites.{replaced_is, written_is}
 use Rattle.guest_space.proofs.dos.put_entries.Goals as goal
 
 pub replace_entries-requires-clause-within : goal.replace_entries-requires-clause-within

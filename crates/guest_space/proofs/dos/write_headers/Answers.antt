@@ -1,10 +1,6 @@
-use Rattle.std.proofs.Common.{◌*◌, ◌∙◌, sym, ap, arith, ℕ, List, length}
-use Rattle.client_world.specs.declared.memory_map.TheConstants.{PARAGRAPH_SIZE}
-use Rattle.guest_ram.specs.Bytes.{put}
-use Rattle.host_memory.specs.DosList.{arena_in}
-use Rattle.host_memory.specs.Layout.{arena_part}
+use Rattle.std.proofs.Common.{arith}
 use Rattle.guest_space.proofs.ArenaHeaders.{length-header, header_room, one_header, header_away, no_header_left}
-use Rattle.guest_space.proofs.ArenaLists.{length-arena_in}
+use Rattle.host_memory.proofs.ListsClaim.{length-arena_in}
 use Rattle.guest_space.proofs.dos.write_headers.Goals as goal
 
 pub entry-entry-requires : goal.entry-entry-requires

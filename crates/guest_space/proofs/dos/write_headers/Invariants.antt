@@ -1,7 +1,5 @@
 use Rattle.std.proofs.Common.{◌≡◌, length, drop}
-use Rattle.host_memory.specs.DosList.{arena_in}
-use Rattle.host_memory.specs.Headers.{with_headers}
-use Rattle.host_memory.specs.Layout.{arena_part}
+use Rattle.host_memory.specs.{DosList.{arena_in}, Headers.{with_headers}, Layout.{arena_part}}
 use Rattle.guest_space.proofs.dos.write_headers.Given as goal
 
 abbrev pub invariant-loop-place : goal.invariant-loop-place

@@ -1,6 +1,5 @@
 use Rattle.std.specs.List.{AllWithin}
-use Rattle.guest_space.specs.declared.pending.Write.{Write}
-use Rattle.guest_space.specs.WriteRuns.{LiesIn}
+use Rattle.guest_space.specs.{declared.pending.Write.{Write}, WriteRuns.{LiesIn}}
 use Rattle.guest_space.proofs.page_runs.span_of.Given as goal
 
 abbrev pub invariant-loop-x : goal.invariant-loop-x

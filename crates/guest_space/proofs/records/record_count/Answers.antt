@@ -1,5 +1,4 @@
-use Rattle.std.proofs.Common.{sym, ◌∙◌, arith, refl, inl, inr}
-use Rattle.client_world.specs.declared.limits.TheConstants.{GREATEST_DEPTH}
+use Rattle.std.proofs.Common.{arith}
 use Rattle.guest_space.proofs.RecordWrites.{counted_rows}
 use Rattle.guest_space.proofs.records.record_count.Goals as goal
 

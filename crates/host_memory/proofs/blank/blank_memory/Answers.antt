@@ -1,7 +1,5 @@
 use Rattle.std.proofs.Common.{◌∙◌}
-use Rattle.host_memory.proofs.BlankHolds.{blank_holds, blank_world_is}
-use Rattle.host_memory.proofs.BlankSound.{blank_is_sound}
-use Rattle.host_memory.proofs.FreshMemory.{IsBlank, is_blank}
+use Rattle.host_memory.proofs.{BlankHolds.{blank_holds, blank_world_is}, BlankSound.{blank_is_sound}, FreshMemory.{IsBlank, is_blank}}
 use Rattle.host_memory.proofs.blank.blank_memory.Goals as goal
 
 -- the memory that the writes leave

@@ -1,6 +1,4 @@
-use Rattle.host_run.proofs.Nested.{anywhere}
-use Rattle.host_run.proofs.Sound.{turns_calls}
-use Rattle.host_run.proofs.TurnLaws.{turn_keeps}
+use Rattle.host_run.proofs.{Nested.{anywhere}, Sound.{turns_calls}, TurnLaws.{turn_keeps}}
 use Rattle.host_run.proofs.laws.every_turn_changes_the_innermost_record_at_most.Goals as goal
 
 pub returns-clause-turn : goal.returns-clause-turn

@@ -1,7 +1,6 @@
 use Rattle.std.proofs.Common.{◌≡◌, true, false}
 use Rattle.insn_decode.specs.Reading.{any_below}
-use Rattle.insn_forms.specs.OpcodeMap.{opcode_row}
-use Rattle.insn_forms.specs.Operands.{is_row}
+use Rattle.insn_forms.specs.{OpcodeMap.{opcode_row}, Operands.{is_row}}
 use Rattle.insn_decode.proofs.head.is_in_group.Given as goal
 
 abbrev pub invariant-loop-reg : goal.invariant-loop-reg

@@ -1,7 +1,5 @@
-use Rattle.std.proofs.Common.{◌∙◌, sym, arith}
-use Rattle.std.proofs.lemmas.List.{get_or_past}
-use Rattle.insn_forms.specs.declared.rows.Form.TheVariants.{Empty}
-use Rattle.insn_forms.specs.OpcodeMap.{no_row}
+use Rattle.std.proofs.{Common.{◌∙◌, sym, arith}, lemmas.List.{get_or_past}}
+use Rattle.insn_forms.specs.{declared.rows.Form.TheVariants.{Empty}, OpcodeMap.{no_row}}
 use Rattle.insn_forms.proofs.Tables.{picked}
 use Rattle.insn_forms.proofs.table.row_of_group.Goals as goal
 

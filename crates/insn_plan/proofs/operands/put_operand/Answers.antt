@@ -1,9 +1,7 @@
 use Rattle.std.proofs.Common.{Ok, sym, ap, ◌∙◌}
 use Rattle.host_memory.specs.View.{MachineView}
 use Rattle.insn_forms.specs.declared.insn.Operand.{Operand}
-use Rattle.insn_plan.specs.Act.{unchanged}
-use Rattle.insn_plan.specs.Operands.{put_operand}
-use Rattle.insn_plan.specs.Plan.{after_commit}
+use Rattle.insn_plan.specs.{Act.{unchanged}, Operands.{put_operand}, Plan.{after_commit}}
 use Rattle.insn_plan.proofs.Registered.{put_in_register}
 use Rattle.insn_plan.proofs.operands.put_operand.Goals as goal
 

@@ -2,10 +2,7 @@ use Rattle.std.proofs.Common.{Ok, sym, ap, ◌∙◌}
 use Rattle.guest_space.specs.Registers.{with_registers}
 use Rattle.host_memory.specs.View.{MachineView}
 use Rattle.insn_forms.specs.declared.insn.Operand.{Operand}
-use Rattle.insn_plan.specs.Act.{with_flags}
-use Rattle.insn_plan.specs.Operands.{put_operand}
-use Rattle.insn_plan.specs.Plan.{after_commit}
-use Rattle.insn_plan.specs.Registers.{with_register}
+use Rattle.insn_plan.specs.{Act.{with_flags}, Operands.{put_operand}, Plan.{after_commit}, Registers.{with_register}}
 use Rattle.insn_plan.proofs.Registered.{put_with_flags_in_register}
 use Rattle.insn_plan.proofs.operands.put_with_flags.Goals as goal
 

@@ -1,5 +1,4 @@
-use Rattle.mode_gates.proofs.SoundGates.{sound_entry, sound_world_far}
-use Rattle.mode_gates.proofs.SwitchLaws.{sound_service, sound_to_protected, sound_to_real}
+use Rattle.mode_gates.proofs.{SoundGates.{sound_entry, sound_world_far}, SwitchLaws.{sound_service, sound_to_protected, sound_to_real}}
 use Rattle.mode_gates.proofs.laws.every_gate_is_sound.Goals as goal
 
 pub returns-clause-far : goal.returns-clause-far

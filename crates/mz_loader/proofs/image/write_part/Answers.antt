@@ -1,8 +1,6 @@
 use Rattle.std.proofs.Common.{ℕ, ◌+◌, sym, ap, ◌∙◌, arith, List, set, refl, get_or}
-use Rattle.client_world.specs.World.{World}
-use Rattle.guest_ram.specs.Bytes.{put}
-use Rattle.guest_ram.specs.Listed.{listed}
-use Rattle.client_world.specs.declared.memory_map.TheConstants.{IMAGE_START}
+use Rattle.client_world.specs.{World.{World}, declared.memory_map.TheConstants.{IMAGE_START}}
+use Rattle.guest_ram.specs.{Bytes.{put}, Listed.{listed}}
 use Rattle.mz_loader.proofs.DosBytes.{dos_only, put_more, put_none, below_rom}
 use Rattle.mz_loader.proofs.image.write_part.Goals as goal
 

@@ -1,6 +1,5 @@
 use Rattle.std.proofs.Common.{◌≡◌, ◌+◌, slice_index}
-use Rattle.guest_ram.specs.Bytes.{put}
-use Rattle.guest_ram.specs.Listed.{listed}
+use Rattle.guest_ram.specs.{Bytes.{put}, Listed.{listed}}
 use Rattle.client_world.specs.declared.memory_map.TheConstants.{IMAGE_START}
 use Rattle.mz_loader.proofs.image.write_part.Given as goal
 

@@ -1,6 +1,5 @@
 use Rattle.std.proofs.Common.{◌≡◌, ◌+◌, ◌-◌, ◌*◌, false}
-use Rattle.mz_loader.specs.Refusal.{some_beyond}
-use Rattle.mz_loader.specs.Start.{after_relocations}
+use Rattle.mz_loader.specs.{Refusal.{some_beyond}, Start.{after_relocations}}
 use Rattle.mz_loader.proofs.relocations.relocate_from.Given as goal
 
 abbrev pub invariant-loop-i : goal.invariant-loop-i

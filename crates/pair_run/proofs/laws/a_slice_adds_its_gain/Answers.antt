@@ -1,5 +1,4 @@
-use Rattle.pair_run.proofs.OwnRuns.{client_of}
-use Rattle.pair_run.proofs.SliceTexts.{slice_appends}
+use Rattle.pair_run.proofs.{OwnRuns.{client_of}, SliceTexts.{slice_appends}}
 use Rattle.pair_run.proofs.laws.a_slice_adds_its_gain.Goals as goal
 
 pub returns : goal.returns

@@ -1,5 +1,4 @@
-use Rattle.pair_run.proofs.OwnRuns.{client_of}
-use Rattle.pair_run.proofs.SliceTexts.{silent_slice}
+use Rattle.pair_run.proofs.{OwnRuns.{client_of}, SliceTexts.{silent_slice}}
 use Rattle.pair_run.proofs.laws.an_ended_client_is_silent.Goals as goal
 
 pub returns : goal.returns

@@ -1,5 +1,4 @@
-use Rattle.pair_run.proofs.OwnRuns.{client_of}
-use Rattle.pair_run.proofs.SliceTexts.{lines_of_a, lines_of_b}
+use Rattle.pair_run.proofs.{OwnRuns.{client_of}, SliceTexts.{lines_of_a, lines_of_b}}
 use Rattle.pair_run.proofs.laws.each_client_writes_its_own_lines.Goals as goal
 
 pub returns-clause-a : goal.returns-clause-a

@@ -1,6 +1,5 @@
 use Rattle.std.proofs.Common.{sym, ◌∙◌}
-use Rattle.pair_run.proofs.OwnRuns.{client_of}
-use Rattle.pair_run.proofs.SliceTexts.{own_bytes, run_console}
+use Rattle.pair_run.proofs.{OwnRuns.{client_of}, SliceTexts.{own_bytes, run_console}}
 use Rattle.pair_run.proofs.laws.own_lines_hold_the_console.Goals as goal
 
 pub returns : goal.returns

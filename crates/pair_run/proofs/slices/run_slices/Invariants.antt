@@ -1,7 +1,6 @@
 use Rattle.std.proofs.Common.{◌-◌, ◌≡◌, ◌≤◌, true, IsSome}
 use Rattle.dpmi_io.specs.Content.{Gains}
-use Rattle.pair_run.specs.Run.{turns_of}
-use Rattle.pair_run.specs.Slices.{both_lines, lines_text, lines_up_to, own_run}
+use Rattle.pair_run.specs.{Run.{turns_of}, Slices.{both_lines, lines_text, lines_up_to, own_run}}
 use Rattle.pair_run.proofs.PairTexts.{Begins}
 use Rattle.pair_run.proofs.slices.run_slices.Given as goal
 

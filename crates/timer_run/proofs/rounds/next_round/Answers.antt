@@ -1,20 +1,13 @@
 use Rattle.std.proofs.Common.{arith, rules, ℕ, Bool, true, false, ◌≡◌, ◌<◌, ◌∙◌, List, None, Ok, Err, ap, refl, subst, sym}
 use Rattle.std.specs.Prelude.{IfErr, if◌then◌else◌}
-use Rattle.client_world.specs.declared.limits.TheConstants.{MAX_STEPS}
-use Rattle.client_world.specs.WatchWorld.{WatchWorld}
-use Rattle.client_world.specs.World.{HostWorld}
-use Rattle.host_run.specs.Footprint.{ChangesOnly}
-use Rattle.host_run.specs.MakesTurn.{turn_answer}
-use Rattle.host_run.specs.Windows.{HasWindow}
-use Rattle.host_run.proofs.Answered.{by_exit}
-use Rattle.host_run.proofs.ClientChanges.{kept}
-use Rattle.host_run.proofs.WindowStarts.{no_starts}
-use Rattle.timer_run.specs.Rounds.{MakesRound, round_footprint, timed}
-use Rattle.timer_run.specs.Timer.{TimerState, timer_answer, timer_footprint, timer_part}
-use Rattle.timer_run.proofs.Parts.{answered_exit, answered_on, part_every, part_steps}
-use Rattle.timer_run.proofs.RoundParts.{exit_made, interrupt_made, turn_changes, turn_from, turn_made}
-use Rattle.timer_run.proofs.rounds.next_round.Goals as goal
+use Rattle.client_world.specs.{declared.limits.TheConstants.{MAX_STEPS}, WatchWorld.{WatchWorld}, World.{HostWorld}}
+use Rattle.host_run.specs.{Footprint.{ChangesOnly}, MakesTurn.{turn_answer}, Windows.{HasWindow}}
+use Rattle.host_run.proofs.{Answered.{by_exit}, ClientChanges.{kept}, WindowStarts.{no_starts}}
+use Rattle.timer_run.specs.{Rounds.{MakesRound, round_footprint, timed}, Timer.{TimerState, timer_answer, timer_footprint, timer_part}}
+use Rattle.timer_run.proofs.{Parts.{answered_exit, answered_on, part_every, part_steps}, RoundParts.{exit_made, interrupt_made}}
+use Rattle.timer_run.proofs.RoundParts.{turn_changes, turn_from, turn_made}
 use Rattle.watch_run.specs.Turn.{watch_footprint}
+use Rattle.timer_run.proofs.rounds.next_round.Goals as goal
 
 -- ---- the round is the interrupt
 

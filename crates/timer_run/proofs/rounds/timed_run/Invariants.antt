@@ -1,6 +1,5 @@
 use Rattle.std.proofs.Common.{◌≡◌, ◌≤◌, ◌+◌, None}
-use Rattle.host_run.specs.View.{machine_view}
-use Rattle.host_run.specs.Windows.{HasWindow}
+use Rattle.host_run.specs.{View.{machine_view}, Windows.{HasWindow}}
 use Rattle.timer_run.specs.Rounds.{timed_rounds}
 use Rattle.timer_run.proofs.rounds.timed_run.Given as goal
 

@@ -1,7 +1,6 @@
 use Rattle.std.proofs.Common.{◌≡◌, ◌+◌, ◌-◌, ◌++◌, ◌≤◌}
 use Rattle.arrayvec.specs.ArrayVec.{array_vec_len}
-use Rattle.translation.specs.declared.client_words.TheConstants.{MOST_WORDS}
-use Rattle.translation.specs.SimulatedCall.{are_readable_words, client_words}
+use Rattle.translation.specs.{declared.client_words.TheConstants.{MOST_WORDS}, SimulatedCall.{are_readable_words, client_words}}
 use Rattle.translation.proofs.client_words.add_client_words.Given as goal
 
 abbrev pub invariant-loop-k : goal.invariant-loop-k

@@ -1,5 +1,4 @@
-use Rattle.translation.proofs.Begun.{refused_world}
-use Rattle.translation.proofs.KeptWorld.{begin_left, end_left, reflect_left}
+use Rattle.translation.proofs.{Begun.{refused_world}, KeptWorld.{begin_left, end_left, reflect_left}}
 use Rattle.translation.proofs.laws.every_call_keeps_the_rest.Goals as goal
 
 pub returns-clause-begin : goal.returns-clause-begin

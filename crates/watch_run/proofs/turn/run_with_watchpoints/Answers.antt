@@ -3,8 +3,7 @@ use Rattle.client_world.specs.WatchWorld.{WatchWorld}
 use Rattle.host_run.specs.View.{HostView}
 use Rattle.host_run.proofs.WindowStarts.{no_starts}
 use Rattle.watch_run.specs.Turn.{turn_with_watchpoints, turns_with_watchpoints}
-use Rattle.watch_run.proofs.Runs.{run_ended, run_over}
-use Rattle.watch_run.proofs.WatchedTurns.{one_more}
+use Rattle.watch_run.proofs.{Runs.{run_ended, run_over}, WatchedTurns.{one_more}}
 use Rattle.watch_run.proofs.turn.run_with_watchpoints.Goals as goal
 
 pub returns-in-Some-clause-world : goal.returns-in-Some-clause-world

@@ -1,6 +1,5 @@
 use Rattle.std.proofs.Common.{◌≡◌, ◌≤◌, ◌+◌, None}
-use Rattle.host_run.specs.View.{machine_view}
-use Rattle.host_run.specs.Windows.{HasWindow}
+use Rattle.host_run.specs.{View.{machine_view}, Windows.{HasWindow}}
 use Rattle.watch_run.specs.Turn.{turns_with_watchpoints}
 use Rattle.watch_run.proofs.turn.run_with_watchpoints.Given as goal
 

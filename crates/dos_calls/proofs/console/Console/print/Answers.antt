@@ -1,7 +1,5 @@
-use Rattle.std.proofs.Common.{◌+◌, drop, refl}
-use Rattle.dos_calls.proofs.ConsoleLaws.{byte_added, byte_refused, all_added}
-use Rattle.dos_calls.proofs.LineLaws.{rest_is}
-use Rattle.std.proofs.lemmas.List.{drop_all}
+use Rattle.std.proofs.{Common.{◌+◌, drop, refl}, lemmas.List.{drop_all}}
+use Rattle.dos_calls.proofs.{ConsoleLaws.{byte_added, byte_refused, all_added}, LineLaws.{rest_is}}
 use Rattle.dos_calls.proofs.console.Console.print.Goals as goal
 
 pub loop-byte-init : goal.loop-byte-init

@@ -1,7 +1,6 @@
 use Rattle.std.proofs.Common.{◌≡◌, ◌≤◌, ◌+◌, ◌-◌, None}
 use Rattle.client_world.specs.declared.limits.TheConstants.{MAX_STEPS}
-use Rattle.host_run.specs.View.{machine_view}
-use Rattle.host_run.specs.Windows.{HasWindow}
+use Rattle.host_run.specs.{View.{machine_view}, Windows.{HasWindow}}
 use Rattle.pair_run.specs.Run.{turns_of}
 use Rattle.watch_run.specs.Turn.{turn_with_watchpoints}
 use Rattle.dpmi_cli.proofs.watched_host.WatchedHostTurns.go.Given as goal

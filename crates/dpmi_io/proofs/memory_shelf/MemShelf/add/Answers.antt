@@ -1,8 +1,7 @@
 use Rattle.std.proofs.Common.{◌≡◌, ◌∙◌, ap, string_bytes, List, ℕ}
-use Rattle.dpmi_io.specs.MemShelf.{FileMap, MemShelfState, after_add}
-use Rattle.std.specs.Option.{option_map}
-use Rattle.dpmi_io.specs.StoredFiles.{open_at}
+use Rattle.dpmi_io.specs.{MemShelf.{FileMap, MemShelfState, after_add}, StoredFiles.{open_at}}
 use Rattle.dpmi_io.specs.declared.memory_shelf.MemShelf.TheInside.{Inside}
+use Rattle.std.specs.Option.{option_map}
 use Rattle.dpmi_io.proofs.Stored.{files_of-insert}
 use Rattle.dpmi_io.proofs.memory_shelf.MemShelf.add.Goals as goal
 

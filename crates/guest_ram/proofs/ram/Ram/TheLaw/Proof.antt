@@ -4,7 +4,7 @@ use base.Fraction.{full_share}
 use denote.Builtin.{u8}
 use denote.Array.{Array, Array-row_laws}
 use denote.Plain.{uint_row_laws}
-use mir.Syntax.{w8}
+use mir.Syntax.{w8, ty_array}
 use denote.Memory.{lone}
 use denote.RawPtr.{lies_at}
 use denote.Shares.{Shares-less, Shares-Array}
@@ -13,12 +13,11 @@ use denote.Struct.Field.{RawPtr-field, u32-field, u8-field}
 use denote.Struct.Laws.{RawPtr-copy, u32-copy, u8-copy}
 use denote.Struct.Lending.{lent_at, lent_at_shr_laws, Lends-lies, Lends-first, of_Lends}
 use Rattle.std.specs.contracts.impls.GlobalAllocator.TheImpl.{ghosts}
+use Rattle.guest_ram.proofs.ram.Ram.TheLaw.Statement.{statement}
+use mir.Raw.{raw as bare}
 use Rattle.guest_ram.specs.contracts.ram.Ram.TheInside as C
 use Rattle.std.proofs.alloc.Global.TheLaws as G
 use Rattle.std.specs.contracts.alloc.Global as GC
-use Rattle.guest_ram.proofs.ram.Ram.TheLaw.Statement.{statement}
-use mir.Syntax.{ty_array}
-use mir.Raw.{raw as bare}
 
 pub shares : statement
 shares = of_Lends C.struct (C.the_codes (GC.the_row).coded) C.the_heap C.the_lent

@@ -4,9 +4,10 @@ use Rattle.guest_ram.proofs.Steps.{◌$◌, ◌∵◌, !, qed, done, move, keep,
 use Rattle.guest_ram.proofs.Steps.{suffices, frame, enter, of_opd, bin, load, look, stop, fld, first, blocks, exec, returns, alloc_all}
 use Rattle.guest_ram.proofs.Steps.{pass_all, free_all, look_at, get, through, sets, env, u8, yes, uint_vals, uint_Tells, plain, nothing}
 use Rattle.guest_ram.proofs.Steps.{heard, Stays, walk_of, says, stay_dropped, Goes-dropped, ends_at}
-use Rattle.std.proofs.Common.{subst, length, get_or, ◌<◌, ◌+◌, ◌^◌, w32, w64}
+use Rattle.guest_ram.proofs.{ram.Ram.byte_at.Statement.{statement}, ram.Ram.TheLaws.{the_row_laws}, ByteCells.{byte_lent}}
+use Rattle.std.proofs.{Common.{subst, length, get_or, ◌<◌, ◌+◌, ◌^◌, w32, w64}, Words.{pointer_in, pointer_out}, VecSteps.Shapes.{after}}
 use mir.Val.{Val, vptr}
-use base.Fml.{fhide}
+use base.Fml.{fhide, Lft}
 use types.ByLocal.{sets_last}
 use types.Kit.{flt_l, flt_i}
 use denote.Opens.{shr_dup, unhide, hide}
@@ -14,30 +15,23 @@ use denote.Ref.{ShrRef, shr_vals, shr_Tells}
 use denote.Memory.{cell_at, hidden_shr}
 use denote.Builtin.{usize}
 use denote.Triple.Walked.{stay_none_ref, Goes-none_ref}
-use Rattle.std.proofs.Words.{pointer_in, pointer_out}
-use Rattle.guest_ram.specs.contracts.ram.Ram.byte_at as f
-use Rattle.guest_ram.proofs.ram.Ram.byte_at.Statement.{statement}
-use Rattle.guest_ram.proofs.ram.Ram.byte_at.Code as code
-use Rattle.guest_ram.specs.contracts.ram.Ram.{the_row as R}
-use Rattle.guest_ram.specs.contracts.ram.Ram.TheInside as IN
-use Rattle.guest_ram.specs.declared.ram.Ram.TheInside.{Inside}
-use Rattle.guest_ram.proofs.ram.Ram.TheLaws.{the_row_laws}
-use Rattle.std.specs.contracts.alloc.Global as GC
-use Rattle.guest_ram.proofs.ByteCells.{byte_lent}
+use Rattle.guest_ram.specs.{contracts.ram.Ram.{the_row as R}, declared.ram.Ram.TheInside.{Inside}}
 use denote.RattleType.{RattleType, RowLaws}
 use denote.Struct.Struct.{Struct, Struct-row_laws}
 use seplogic.Ra.Ura.{Ura}
 use base.Logic.{ent, sep}
-use base.Fml.{Lft}
 use types.Logic.{Logic, sem}
 use denote.Plain.{uint_row_laws}
 use denote.Copied.{uint_Copied}
 use denote.RawPtr.{RawPtr, ptr_row_laws, block_of, count_of, InBlock}
 use denote.Steps.{looks, shuts}
-use Rattle.std.proofs.VecSteps.Shapes.{after}
-use Rattle.std.proofs.alloc.Global.TheLaws as G
 use denote.Struct.Owning.{shape, to}
 use denote.Struct.Lending.{lent_out, in_block_says}
+use Rattle.guest_ram.specs.contracts.ram.Ram.byte_at as f
+use Rattle.guest_ram.proofs.ram.Ram.byte_at.Code as code
+use Rattle.guest_ram.specs.contracts.ram.Ram.TheInside as IN
+use Rattle.std.specs.contracts.alloc.Global as GC
+use Rattle.std.proofs.alloc.Global.TheLaws as G
 
 laws : RowLaws R
 laws = (the_row_laws).shr_laws

@@ -5,13 +5,16 @@ use Rattle.guest_ram.proofs.Steps.{fsplit, fsplit3, fjoin, fpick, fpack, feq_i, 
 use Rattle.guest_ram.proofs.Steps.{unit_lit, lit, lit<, load, store, stop, fld, assigns_last, first, blocks, exec, returns, alloc_all}
 use Rattle.guest_ram.proofs.Steps.{pass_all, free_all, look_at, get, through, sets, env, u8, yes, shows, uint_vals, uint_Tells, Ptr}
 use Rattle.guest_ram.proofs.Steps.{lies_at, in_a_block, MutRef, mut_vals, mut_Tells, plain, nothing, opens, closes, heard, peeks, Stays}
-use Rattle.guest_ram.proofs.Steps.{walk_of, stay_ref, stay_dropped, Goes-ref, Goes-dropped, ends_at}
-use Rattle.std.proofs.Common.{subst, length, get_or, set, ◌<◌, ◌≤◌, ◌+◌, ◌*◌, ◌^◌, w32, w64, arith}
+use Rattle.guest_ram.proofs.{Steps.{walk_of, stay_ref, stay_dropped, Goes-ref, Goes-dropped, ends_at}, PutLaws.{length-put}}
+use Rattle.guest_ram.proofs.{RunLaws.{copies_more, no_copies}, ByteCells.{rest, byte_out, byte_in}, WalkSteps.{says2}, Insides.{Held}}
+use Rattle.guest_ram.proofs.{Insides.{Words, with_copies, held_copies}, ram.Ram.fill.Statement.{statement}}
+use Rattle.guest_ram.proofs.ram.Ram.TheInside.TheLaws.{lowers}
+use Rattle.std.proofs.Common.{subst, length, get_or, set, ◌<◌, ◌≤◌, ◌+◌, ◌*◌, ◌^◌, w32, w64, arith, ◌-◌, nltb→le, ltb→lt}
+use Rattle.std.proofs.VecSteps.Shapes.{after, head}
 use seplogic.Ra.Ura.{Ura}
-use mathlib.Core.WellFounded.InvImage
 use lib.WfN.{lt-wf_rel}
 use base.Logic.{SProp}
-use base.Fml.{fobor, fobs, fauth}
+use base.Fml.{fobor, fobs, fauth, fsep}
 use contract.Running.{tables_of}
 use prog.Wp.{Env, Out, Wp, Tables, at_return, after_seq, after_block, after_turn}
 use types.Kit.{Item, Sq, any_q, runs}
@@ -19,34 +22,21 @@ use types.Logic.{Logic}
 use types.Run.{branches, skips, jumps, loops, again, Below}
 use types.SemTy.{Body as Within}
 use types.ByLocal.{sets_last, forget_but, holding}
-use Rattle.std.proofs.Common.{◌-◌, nltb→le, ltb→lt}
-use Rattle.guest_ram.specs.Bytes.{put}
-use Rattle.guest_ram.specs.Listed.{copies}
-use Rattle.guest_ram.specs.Owned.{bytes_type}
+use Rattle.guest_ram.specs.{Bytes.{put}, Listed.{copies}, Owned.{bytes_type}, contracts.ram.Ram.{the_row as R}}
+use Rattle.guest_ram.specs.{contracts.ram.Ram.TheInside.{the_row as F}, declared.ram.Ram.TheInside.{Inside}}
 use Rattle.std.specs.contracts.impls.GlobalAllocator.TheImpl.{ghosts}
-use Rattle.guest_ram.proofs.PutLaws.{length-put}
-use Rattle.guest_ram.proofs.RunLaws.{copies_more, no_copies}
 use mir.Syntax.{Body, ty_int}
 use mir.Val.{Val, vptr}
-use base.Fml.{fsep}
 use types.Part.{whole, sub, look_in}
-use Rattle.std.proofs.VecSteps.Shapes.{after, head}
 use denote.Memory.{cell_at, part_at, mem}
 use denote.Ref.{mut_at}
 use denote.Struct.Owning.{to}
-use Rattle.guest_ram.specs.contracts.ram.Ram.TheInside as IN
 use denote.Array.{Array}
 use denote.Builtin.{u32}
-use Rattle.guest_ram.proofs.ByteCells.{rest, byte_out, byte_in}
-use Rattle.guest_ram.proofs.WalkSteps.{says2}
-use Rattle.guest_ram.proofs.Insides.{Held, Words, with_copies, held_copies}
+use mathlib.Core.WellFounded.InvImage
+use Rattle.guest_ram.specs.contracts.ram.Ram.TheInside as IN
 use Rattle.guest_ram.specs.contracts.ram.Ram.fill as f
-use Rattle.guest_ram.proofs.ram.Ram.fill.Statement.{statement}
 use Rattle.guest_ram.proofs.ram.Ram.fill.Code as code
-use Rattle.guest_ram.specs.contracts.ram.Ram.{the_row as R}
-use Rattle.guest_ram.specs.contracts.ram.Ram.TheInside.{the_row as F}
-use Rattle.guest_ram.specs.declared.ram.Ram.TheInside.{Inside}
-use Rattle.guest_ram.proofs.ram.Ram.TheInside.TheLaws.{lowers}
 
 abbrev stayed : Stays f.ended.signature.params f.ended.kept
 stayed = (

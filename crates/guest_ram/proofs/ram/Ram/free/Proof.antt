@@ -4,11 +4,10 @@ use Rattle.guest_ram.proofs.Steps.{tables, ‵, raw, ◌⊛◌, later, some, pro
 use Rattle.guest_ram.proofs.Steps.{fsplit, fsplit3, fjoin, feq_i, feq_l, pick, await, rewrite, regoal, enter, of_opd, un, bin, lit}
 use Rattle.guest_ram.proofs.Steps.{unit_lit, stop, fld, no_more, and_then, first, blocks, exec, returns, alloc_all, pass_all, free_all}
 use Rattle.guest_ram.proofs.Steps.{look_at, get, sets, env, u8, unit, shows, Ptr, block_ptr, lies_at, in_a_block, plain, nothing, peeks}
-use Rattle.guest_ram.proofs.Steps.{only, triple_of, Stays, walk_of, stay_dropped, Goes-dropped, framed}
-use Rattle.std.proofs.Common.{◌*◌, ◌<◌, ◌^◌, ◌++◌, w64, subst, T}
-use Rattle.std.proofs.raw_atomic.Walks.{proved_at, leaves}
-use Rattle.std.proofs.VecSteps.Shapes.{after}
-use Rattle.std.proofs.alloc.Calls.{Goes-blank}
+use Rattle.guest_ram.proofs.{Steps.{only, triple_of, Stays, walk_of, stay_dropped, Goes-dropped, framed}, WalkSteps.{big_lit}}
+use Rattle.guest_ram.proofs.{ram.Ram.TheInside.TheLaws.{lowers}, ram.Ram.free.Statement.{statement}}
+use Rattle.std.proofs.{Common.{◌*◌, ◌<◌, ◌^◌, ◌++◌, w64, subst, T}, raw_atomic.Walks.{proved_at, leaves}, VecSteps.Shapes.{after}}
+use Rattle.std.proofs.{alloc.Calls.{Goes-blank}, impls.GlobalAllocator.deallocate.Met.{met}}
 use mir.Syntax.{ty_array, ty_unit}
 use mir.Val.{vptr, has_ty, WT}
 use base.Logic.{SProp, emp}
@@ -28,17 +27,11 @@ use denote.Signature.{types_at}
 use denote.Triple.Call.{calls_at_last}
 use denote.Triple.Entry.{alive}
 use Rattle.std.specs.contracts.impls.GlobalAllocator.TheImpl.{ghosts}
+use Rattle.guest_ram.specs.{Owned.{bytes_type}, contracts.ram.Ram.{the_row as R}, contracts.ram.Ram.TheInside.{the_row as F}}
+use Rattle.guest_ram.specs.declared.ram.Ram.TheInside.{Inside}
 use Rattle.std.specs.contracts.alloc.Global as GC
 use Rattle.std.specs.contracts.impls.GlobalAllocator.deallocate as g
-use Rattle.std.proofs.impls.GlobalAllocator.deallocate.Met.{met}
-use Rattle.guest_ram.specs.Owned.{bytes_type}
-use Rattle.guest_ram.proofs.WalkSteps.{big_lit}
-use Rattle.guest_ram.specs.contracts.ram.Ram.{the_row as R}
-use Rattle.guest_ram.specs.contracts.ram.Ram.TheInside.{the_row as F}
-use Rattle.guest_ram.specs.declared.ram.Ram.TheInside.{Inside}
-use Rattle.guest_ram.proofs.ram.Ram.TheInside.TheLaws.{lowers}
 use Rattle.guest_ram.specs.contracts.ram.Ram.free as f
-use Rattle.guest_ram.proofs.ram.Ram.free.Statement.{statement}
 use Rattle.guest_ram.proofs.ram.Ram.free.Code as code
 
 abbrev stayed : Stays f.ended.signature.params f.ended.kept

@@ -5,26 +5,22 @@ use Rattle.guest_ram.proofs.Steps.{join, fsplit, fsplit3, fjoin, fpick, fpack, f
 use Rattle.guest_ram.proofs.Steps.{bin, unit_lit, lit, load, store, stop, fld, assigns, assigns_last, first, blocks, exec, returns}
 use Rattle.guest_ram.proofs.Steps.{alloc_all, pass_all, free_all, look_at, get, through, sets, env, u8, yes, shows, uint_vals, uint_Tells}
 use Rattle.guest_ram.proofs.Steps.{Ptr, lies_at, in_a_block, MutRef, mut_vals, mut_Tells, plain, nothing, opens, closes, heard, peeks}
-use Rattle.guest_ram.proofs.Steps.{Stays, walk_of, stay_ref, stay_dropped, Goes-ref, Goes-dropped, ends_at}
+use Rattle.guest_ram.proofs.{Steps.{Stays, walk_of, stay_ref, stay_dropped, Goes-ref, Goes-dropped, ends_at}, ByteCells.{rest, byte_out}}
+use Rattle.guest_ram.proofs.{ByteCells.{byte_in}, WalkSteps.{says2}, Insides.{Held, with_byte, held_set}}
+use Rattle.guest_ram.proofs.{ram.Ram.set16.Statement.{statement}, ram.Ram.TheInside.TheLaws.{lowers}}
 use Rattle.std.proofs.Common.{subst, length, get_or, set, length-set, ◌<◌, ◌+◌, ◌*◌, ◌^◌, ◌/◌, ◌%◌, w16, w32, arith}
+use Rattle.std.proofs.VecSteps.Shapes.{after}
 use mir.Syntax.{ty_int}
 use mir.Val.{Val}
 use base.Fml.{fsep}
 use types.Part.{whole, sub, look_in}
-use Rattle.std.proofs.VecSteps.Shapes.{after}
 use denote.Memory.{cell_at, part_at}
 use denote.Array.{Array}
 use denote.Builtin.{u32, u16}
-use Rattle.guest_ram.proofs.ByteCells.{rest, byte_out, byte_in}
-use Rattle.guest_ram.proofs.WalkSteps.{says2}
-use Rattle.guest_ram.proofs.Insides.{Held, with_byte, held_set}
-use Rattle.guest_ram.specs.contracts.ram.Ram.set16 as f
-use Rattle.guest_ram.proofs.ram.Ram.set16.Statement.{statement}
-use Rattle.guest_ram.proofs.ram.Ram.set16.Code as code
-use Rattle.guest_ram.specs.contracts.ram.Ram.{the_row as R}
-use Rattle.guest_ram.specs.contracts.ram.Ram.TheInside.{the_row as F}
+use Rattle.guest_ram.specs.{contracts.ram.Ram.{the_row as R}, contracts.ram.Ram.TheInside.{the_row as F}}
 use Rattle.guest_ram.specs.declared.ram.Ram.TheInside.{Inside}
-use Rattle.guest_ram.proofs.ram.Ram.TheInside.TheLaws.{lowers}
+use Rattle.guest_ram.specs.contracts.ram.Ram.set16 as f
+use Rattle.guest_ram.proofs.ram.Ram.set16.Code as code
 
 abbrev stayed : Stays f.ended.signature.params f.ended.kept
 stayed = (stay_ref (0 ∷ []) tt (plain (λ _. R)), (stay_dropped (plain (λ _. u32)) yes, (stay_dropped (plain (λ _. u16)) yes, tt)))

@@ -1,6 +1,5 @@
 use Rattle.std.proofs.Common.{◌∙◌, sym}
-use Rattle.guest_space.proofs.ArenaWrites.{count_of}
-use Rattle.guest_space.proofs.Insides.{processor_of}
+use Rattle.guest_space.proofs.{ArenaWrites.{count_of}, Insides.{processor_of}}
 use Rattle.guest_space.proofs.machine.Machine.arena_len.Goals as goal
 
 pub returns-clause-count : goal.returns-clause-count

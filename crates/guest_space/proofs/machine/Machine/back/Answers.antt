@@ -1,6 +1,5 @@
 use Rattle.std.proofs.Common.{◌∙◌}
-use Rattle.guest_space.proofs.VectorCalls.{callback_read}
-use Rattle.guest_space.proofs.Insides.{processor_of}
+use Rattle.guest_space.proofs.{VectorCalls.{callback_read}, Insides.{processor_of}}
 use Rattle.guest_space.proofs.machine.Machine.back.Goals as goal
 
 pub returns : goal.returns

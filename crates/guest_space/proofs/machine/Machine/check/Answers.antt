@@ -1,5 +1,4 @@
-use Rattle.std.proofs.Common.{rules, ◌≡◌, ◌∙◌, sym, ap, arith, Some}
-use Rattle.guest_space.specs.Transfer.{linear_access, fault_of}
+use Rattle.std.proofs.Common.{arith}
 use Rattle.guest_space.proofs.Runs.{parts_end, run_all, first_part_fails, second_part_fails, no_fault, is_in, is_over}
 use Rattle.guest_space.proofs.machine.Machine.check.Goals as goal
 

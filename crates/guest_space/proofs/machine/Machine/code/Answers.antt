@@ -1,10 +1,5 @@
-use Rattle.std.proofs.Common.{◌≡◌, ◌∙◌, ◌+◌, ◌-◌, ◌++◌, ℕ, sym, ap, List, [], ◌∷◌, length, arith, length-append}
-use Rattle.client_world.specs.declared.registers.Regs.{Regs}
-use Rattle.client_world.specs.declared.segments.SegReg.TheVariants.{Cs}
-use Rattle.host_memory.specs.View.{MachineView}
+use Rattle.std.proofs.Common.{◌∙◌, sym, arith, length-append}
 use Rattle.host_memory.proofs.WorldParts.{regs_is}
-use Rattle.guest_space.specs.Code.{code_from}
-use Rattle.guest_space.specs.Transfer.{read_result}
 use Rattle.guest_space.proofs.Codes.{whole_code, more_code, code_ends, code_full}
 use Rattle.guest_space.proofs.machine.Machine.code.Goals as goal
 

@@ -1,5 +1,4 @@
-use Rattle.std.proofs.Common.{◌∙◌, ap, sym, slice_index, zero-add, arith}
-use Rattle.client_world.specs.declared.memory_map.TheConstants.{DOS_SIZE}
+use Rattle.std.proofs.Common.{zero-add, arith}
 use Rattle.guest_ram.proofs.PutLaws.{at_region}
 use Rattle.host_memory.proofs.WorldParts.{dos_is}
 use Rattle.guest_space.proofs.machine.Machine.dos8.Goals as goal

@@ -1,6 +1,5 @@
 use Rattle.std.proofs.Common.{arith}
-use Rattle.guest_space.proofs.Insides.{processor_of}
-use Rattle.guest_space.proofs.RecordWrites.{count_of, after_drop}
+use Rattle.guest_space.proofs.{Insides.{processor_of}, RecordWrites.{count_of, after_drop}}
 use Rattle.guest_space.proofs.machine.Machine.drop_record.Goals as goal
 
 pub overflow_sub-place : goal.overflow_sub-place

@@ -1,6 +1,5 @@
 use Rattle.std.proofs.Common.{◌∙◌}
-use Rattle.guest_space.proofs.VectorCalls.{exception_read}
-use Rattle.guest_space.proofs.Insides.{processor_of}
+use Rattle.guest_space.proofs.{VectorCalls.{exception_read}, Insides.{processor_of}}
 use Rattle.guest_space.proofs.machine.Machine.evec.Goals as goal
 
 pub returns : goal.returns

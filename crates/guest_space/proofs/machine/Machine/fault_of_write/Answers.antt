@@ -1,5 +1,4 @@
-use Rattle.std.proofs.Common.{◌∙◌, ap, ℕ, true, arith}
-use Rattle.guest_space.specs.Transfer.{access_fault}
+use Rattle.std.proofs.Common.{arith}
 use Rattle.guest_space.proofs.Writes.{fault_of_probe, write_refusal_is}
 use Rattle.guest_space.proofs.machine.Machine.fault_of_write.Goals as goal
 

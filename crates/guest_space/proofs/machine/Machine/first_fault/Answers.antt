@@ -1,6 +1,4 @@
-use Rattle.std.proofs.Common.{◌∙◌, ◌+◌, sym, ap, refl, drop, arith}
-use Rattle.std.proofs.lemmas.List.{drop_all}
-use Rattle.guest_space.specs.Pending.{first_write_fault}
+use Rattle.std.proofs.{Common.{refl, arith}, lemmas.List.{drop_all}}
 use Rattle.guest_space.proofs.Writes.{first_some, first_later, first_none, left_from}
 use Rattle.guest_space.proofs.machine.Machine.first_fault.Goals as goal
 

@@ -1,5 +1,4 @@
-use Rattle.guest_space.proofs.Machines.{opened_holds}
-use Rattle.guest_space.proofs.Insides.{processor_of}
+use Rattle.guest_space.proofs.{Machines.{opened_holds}, Insides.{processor_of}}
 use Rattle.guest_space.proofs.machine.Machine.holds_world.Goals as goal
 
 pub returns : goal.returns

@@ -1,10 +1,6 @@
-use Rattle.std.proofs.Common.{rules, ◌≡◌, ◌≢◌, ℕ, ◌+◌, ◌%◌, ◌≤◌, ◌∙◌, sym, ap, arith, Ok, Err, false, List, below_more, get_or-set_other}
-use Rattle.std.proofs.Common.{get_or-set_same, length-set}
+use Rattle.std.proofs.Common.{◌∙◌, sym, arith, false, below_more, get_or-set_other, get_or-set_same, length-set}
 use Rattle.std.proofs.lemmas.List.{length-replicate}
-use Rattle.client_world.specs.declared.host_frames.TheConstants.{PAGE_SIZE}
-use Rattle.guest_space.specs.Transfer.{linear_access, bytes_at}
-use Rattle.guest_space.proofs.Runs.{run_inside, run_loaded, each_loaded, load_fails, first_part_fails, is_in}
-use Rattle.guest_space.proofs.Insides.{machine_inside}
+use Rattle.guest_space.proofs.{Runs.{run_inside, run_loaded, each_loaded, load_fails, first_part_fails, is_in}, Insides.{machine_inside}}
 use Rattle.guest_space.proofs.machine.Machine.load.Goals as goal
 
 pub returns-in_err-at : goal.returns-in_err-at

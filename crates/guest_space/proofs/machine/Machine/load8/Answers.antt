@@ -1,7 +1,5 @@
 use Rattle.std.proofs.Common.{ℕ, ◌∙◌, sym, ap, false, slice_index}
-use Rattle.guest_space.proofs.Machines.{stands_there}
-use Rattle.guest_space.proofs.Runs.{translated_ends}
-use Rattle.guest_space.proofs.Insides.{machine_inside}
+use Rattle.guest_space.proofs.{Machines.{stands_there}, Runs.{translated_ends}, Insides.{machine_inside}}
 use Rattle.guest_space.proofs.machine.Machine.load8.Goals as goal
 
 pub get8-requires : goal.get8-requires

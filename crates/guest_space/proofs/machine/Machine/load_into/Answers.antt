@@ -1,7 +1,6 @@
-use Rattle.std.proofs.Common.{◌≢◌, ◌+◌, ◌%◌, ◌∙◌, arith, false, length, below_more, get_or-set_other, get_or-set_same}
-use Rattle.guest_space.proofs.Runs.{all_touch, bytes_read, translated_fails}
+use Rattle.std.proofs.Common.{arith, below_more, get_or-set_other, get_or-set_same}
+use Rattle.guest_space.proofs.{Runs.{all_touch, bytes_read, translated_fails}, machine.Machine.load_into.Goals.{in-Ok, in_default}}
 use Rattle.guest_space.proofs.machine.Machine.load_into.Goals as goal
-use Rattle.guest_space.proofs.machine.Machine.load_into.Goals.{in-Ok, in_default}
 
 pub loop-i-init : goal.loop-i-init
 loop-i-init c = λ k less. absurd (omega arith)

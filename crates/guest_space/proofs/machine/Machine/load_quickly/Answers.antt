@@ -1,7 +1,6 @@
 use Rattle.std.proofs.Common.{◌+◌, ◌%◌, ◌≤◌, ◌∙◌, sym, ap, arith, Ok, false, List, ℕ}
 use Rattle.client_world.specs.declared.host_frames.TheConstants.{PAGE_SIZE}
-use Rattle.guest_space.proofs.Runs.{run_inside, run_loaded, is_in}
-use Rattle.guest_space.proofs.Insides.{machine_inside}
+use Rattle.guest_space.proofs.{Runs.{run_inside, run_loaded, is_in}, Insides.{machine_inside}}
 use Rattle.guest_space.proofs.machine.Machine.load_quickly.Goals as goal
 
 pub get-requires : goal.get-requires

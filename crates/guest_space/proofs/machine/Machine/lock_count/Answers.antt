@@ -1,8 +1,7 @@
 use Rattle.std.proofs.Common.{◌∙◌, ◌+◌, ◌*◌, ℕ, ap, inl, inr}
 use Rattle.client_world.specs.declared.host_frames.TheConstants.{PAGE_SIZE, LOCK_COUNTS, LOCK_COUNT_SIZE}
 use Rattle.guest_ram.specs.Bytes.{word_of}
-use Rattle.guest_space.proofs.BlockLocks.{region_lock, outside_lock}
-use Rattle.guest_space.proofs.Insides.{processor_of}
+use Rattle.guest_space.proofs.{BlockLocks.{region_lock, outside_lock}, Insides.{processor_of}}
 use Rattle.guest_space.proofs.machine.Machine.lock_count.Goals as goal
 
 pub returns-then-lin-lt-BLOCK_REGION : goal.returns-then-lin-lt-BLOCK_REGION

@@ -1,8 +1,5 @@
-use Rattle.std.proofs.Common.{◌∙◌, ap, sym, arith}
-use Rattle.guest_space.specs.Pending.{byte_count, number_bytes}
-use Rattle.host_memory.specs.Vectors.{word_bytes}
-use Rattle.guest_space.proofs.Writes.{other_bytes, other_count}
-use Rattle.guest_space.proofs.WriteRuns.{written_by_bytes}
+use Rattle.std.proofs.Common.{arith}
+use Rattle.guest_space.proofs.{Writes.{other_bytes, other_count}, WriteRuns.{written_by_bytes}}
 use Rattle.guest_space.proofs.machine.Machine.make_at.Goals as goal
 
 pub returns-then-x-eq8-clause-written : goal.returns-then-x-eq8-clause-written

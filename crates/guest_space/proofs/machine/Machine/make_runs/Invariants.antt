@@ -1,6 +1,5 @@
 use Rattle.std.proofs.Common.{◌≡◌, drop}
-use Rattle.guest_space.specs.Pending.{after_writes}
-use Rattle.guest_space.specs.WriteRuns.{AreRuns}
+use Rattle.guest_space.specs.{Pending.{after_writes}, WriteRuns.{AreRuns}}
 use Rattle.guest_space.proofs.machine.Machine.make_runs.Given as goal
 
 abbrev pub invariant-loop-x : goal.invariant-loop-x

@@ -1,8 +1,6 @@
 use Rattle.std.proofs.Common.{arith, slice_index_or}
 use Rattle.guest_space.specs.Cache.{empty_entry}
-use Rattle.guest_space.proofs.CacheLaws.{hit_ends}
-use Rattle.guest_space.proofs.Runs.{translated_by_walk}
-use Rattle.guest_space.proofs.Insides.{machine_inside}
+use Rattle.guest_space.proofs.{CacheLaws.{hit_ends}, Runs.{translated_by_walk}, Insides.{machine_inside}}
 use Rattle.guest_space.proofs.machine.Machine.noted_address.Goals as goal
 
 pub returns-then-serves : goal.returns-then-serves

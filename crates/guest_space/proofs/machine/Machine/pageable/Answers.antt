@@ -1,6 +1,5 @@
 use Rattle.std.proofs.Common.{◌∙◌, ap, ℕ, nat_eq}
-use Rattle.guest_space.proofs.VectorCalls.{pageable_read}
-use Rattle.guest_space.proofs.Insides.{processor_of}
+use Rattle.guest_space.proofs.{VectorCalls.{pageable_read}, Insides.{processor_of}}
 use Rattle.guest_space.proofs.machine.Machine.pageable.Goals as goal
 
 pub returns : goal.returns

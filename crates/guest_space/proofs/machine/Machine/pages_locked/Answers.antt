@@ -1,6 +1,5 @@
 use Rattle.std.proofs.Common.{◌∙◌}
-use Rattle.guest_space.proofs.BlockPageCalls.{locked_in_rows, few_pages, rows_inside}
-use Rattle.guest_space.proofs.Insides.{processor_of}
+use Rattle.guest_space.proofs.{BlockPageCalls.{locked_in_rows, few_pages, rows_inside}, Insides.{processor_of}}
 use Rattle.guest_space.proofs.machine.Machine.pages_locked.Goals as goal
 
 pub locked_pages-requires-clause-few : goal.locked_pages-requires-clause-few

@@ -1,4 +1,4 @@
-use Rattle.std.proofs.Common.{◌∙◌, ℕ, ap, None, slice_index_or, arith}
+use Rattle.std.proofs.Common.{arith}
 use Rattle.guest_space.proofs.HiddenLaws.{part_there}
 use Rattle.guest_space.proofs.machine.Machine.part.Goals as goal
 

@@ -1,4 +1,4 @@
-use Rattle.std.proofs.Common.{◌∙◌, sym, arith}
+use Rattle.std.proofs.Common.{arith}
 use Rattle.guest_space.proofs.Accesses.{refusal_linear}
 use Rattle.guest_space.proofs.machine.Machine.probe_checked.Goals as goal
 

@@ -1,8 +1,5 @@
 use Rattle.std.proofs.Common.{◌∙◌, sym, arith, true, refl, [], ◌∷◌}
-use Rattle.guest_space.proofs.Machines.{stands_there}
-use Rattle.guest_space.proofs.Runs.{translated_ends, translated_fails}
-use Rattle.guest_space.proofs.Puts.{put_is}
-use Rattle.guest_space.proofs.CacheLaws.{byte_alone}
+use Rattle.guest_space.proofs.{Machines.{stands_there}, Runs.{translated_ends, translated_fails}, Puts.{put_is}, CacheLaws.{byte_alone}}
 use Rattle.guest_space.proofs.Insides.{machine_inside, stored_whole}
 use Rattle.guest_space.proofs.machine.Machine.put8.Goals as goal
 

@@ -1,7 +1,5 @@
-use Rattle.std.proofs.Common.{arith, ◌+◌}
-use Rattle.guest_space.proofs.WriteRuns.{run_in_memory, run_stored, run_kept}
-use Rattle.guest_space.proofs.Insides.{machine_inside, stored_whole}
-use Rattle.client_world.specs.Access.{linear}
+use Rattle.std.proofs.Common.{arith}
+use Rattle.guest_space.proofs.{WriteRuns.{run_in_memory, run_stored, run_kept}, Insides.{machine_inside, stored_whole}}
 use Rattle.guest_space.proofs.machine.Machine.put_run.Goals as goal
 
 pub write-requires : goal.write-requires

@@ -1,6 +1,5 @@
 use Rattle.std.proofs.Common.{◌∙◌, arith}
-use Rattle.guest_space.proofs.VectorCalls.{interrupt_read}
-use Rattle.guest_space.proofs.Insides.{processor_of}
+use Rattle.guest_space.proofs.{VectorCalls.{interrupt_read}, Insides.{processor_of}}
 use Rattle.guest_space.proofs.machine.Machine.pvec.Goals as goal
 
 pub returns : goal.returns

@@ -1,10 +1,6 @@
-use Rattle.std.proofs.Common.{subst, arith}
-use Rattle.host_memory.specs.HoldsWorld.{HoldsWorld}
-use Rattle.host_memory.specs.View.{MachineView}
+use Rattle.std.proofs.Common.{arith}
 use Rattle.host_memory.proofs.HoldsWorldLaw.{holds_world}
-use Rattle.guest_space.proofs.MachineLaws.{machine_walks, machine_stands}
-use Rattle.guest_space.proofs.Machines.{opened_holds}
-use Rattle.guest_space.proofs.Insides.{processor_of}
+use Rattle.guest_space.proofs.{MachineLaws.{machine_walks, machine_stands}, Machines.{opened_holds}, Insides.{processor_of}}
 use Rattle.guest_space.proofs.machine.Machine.ram.Goals as goal
 
 pub returns-clause-holds : goal.returns-clause-holds

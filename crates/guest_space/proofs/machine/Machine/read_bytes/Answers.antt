@@ -1,4 +1,4 @@
-use Rattle.std.proofs.Common.{◌∙◌, sym, false, length, arith}
+use Rattle.std.proofs.Common.{arith}
 use Rattle.guest_space.proofs.Fars.{reachable_linear, far_bytes_linear, reachable_not_refused}
 use Rattle.guest_space.proofs.machine.Machine.read_bytes.Goals as goal
 

@@ -1,5 +1,4 @@
-use Rattle.guest_space.proofs.RecordWrites.{row_held, row_some, row_none}
-use Rattle.guest_space.proofs.Insides.{processor_of}
+use Rattle.guest_space.proofs.{RecordWrites.{row_held, row_some, row_none}, Insides.{processor_of}}
 use Rattle.guest_space.proofs.machine.Machine.record_bytes.Goals as goal
 
 pub returns-clause-held : goal.returns-clause-held

@@ -1,6 +1,5 @@
 use Rattle.std.proofs.Common.{◌∙◌, sym}
-use Rattle.guest_space.proofs.Insides.{processor_of}
-use Rattle.guest_space.proofs.RecordWrites.{count_of}
+use Rattle.guest_space.proofs.{Insides.{processor_of}, RecordWrites.{count_of}}
 use Rattle.guest_space.proofs.machine.Machine.record_count.Goals as goal
 
 pub returns-clause-count : goal.returns-clause-count

@@ -1,4 +1,4 @@
-use Rattle.std.proofs.Common.{◌∙◌, arith}
+use Rattle.std.proofs.Common.{arith}
 use Rattle.host_memory.proofs.RowWrites.{row_reads}
 use Rattle.guest_space.proofs.machine.Machine.row.Goals as goal
 

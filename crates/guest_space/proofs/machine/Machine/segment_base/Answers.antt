@@ -1,7 +1,4 @@
-use Rattle.std.proofs.Common.{◌∙◌, ℕ, sym, ap, arith}
-use Rattle.client_world.specs.declared.registers.Regs.{Regs}
-use Rattle.client_world.specs.Access.{protected_base}
-use Rattle.client_world.specs.Segments.{selector}
+use Rattle.std.proofs.Common.{arith}
 use Rattle.guest_space.proofs.HiddenLaws.{base_by_part, base_by_row}
 use Rattle.guest_space.proofs.machine.Machine.segment_base.Goals as goal
 

@@ -1,12 +1,7 @@
-use Rattle.std.proofs.Common.{ap, sym, ◌∙◌, arith}
-use Rattle.client_world.specs.declared.registers.Regs.{Regs}
-use Rattle.client_world.specs.General.{with_general}
+use Rattle.std.proofs.Common.{ap, ◌∙◌, arith}
+use Rattle.client_world.specs.{declared.registers.Regs.{Regs}, General.{with_general}}
 use Rattle.host_memory.specs.Layout.{world_of}
-use Rattle.guest_space.proofs.ChangedRegs.{changed_regs}
-use Rattle.desc_table.specs.Rows.{rows_from, rows_start}
-use Rattle.guest_space.specs.HiddenParts.{all_found}
-use Rattle.guest_space.proofs.HiddenLaws.{found_general}
-use Rattle.guest_space.proofs.OwnParts.{regs_sound}
+use Rattle.guest_space.proofs.{ChangedRegs.{changed_regs}, HiddenLaws.{found_general}, OwnParts.{regs_sound}}
 use Rattle.guest_space.proofs.machine.Machine.set_general.Goals as goal
 
 pub invariant_of-self : goal.invariant_of-self

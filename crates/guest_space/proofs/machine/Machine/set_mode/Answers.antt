@@ -1,6 +1,4 @@
-use Rattle.std.proofs.Common.{◌≡◌, ◌≢◌, None, sym, subst, arith}
-use Rattle.client_world.specs.declared.registers.Mode.TheVariants.{Protected as protected}
-use Rattle.host_memory.specs.View.{MachineView}
+use Rattle.std.proofs.Common.{arith}
 use Rattle.guest_space.proofs.OwnParts.{mode_world, mode_sound}
 use Rattle.guest_space.proofs.machine.Machine.set_mode.Goals as goal
 

@@ -1,7 +1,5 @@
-use Rattle.std.proofs.Common.{◌∙◌, arith}
-use Rattle.desc_table.specs.Rows.{rows_from, rows_start}
-use Rattle.guest_space.proofs.HiddenLaws.{found_same}
-use Rattle.guest_space.proofs.OwnParts.{regs_world, regs_sound}
+use Rattle.std.proofs.Common.{arith}
+use Rattle.guest_space.proofs.{HiddenLaws.{found_same}, OwnParts.{regs_world, regs_sound}}
 use Rattle.guest_space.proofs.machine.Machine.set_regs.Goals as goal
 
 pub invariant_of-self : goal.invariant_of-self

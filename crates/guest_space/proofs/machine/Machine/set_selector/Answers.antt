@@ -1,14 +1,7 @@
-use Rattle.std.proofs.Common.{◌≡◌, ◌∙◌, ℕ, List, ap, sym, slice_set, arith}
-use Rattle.std.specs.declared.option.Option.{Option}
-use Rattle.client_world.specs.declared.registers.Regs.{Regs}
-use Rattle.client_world.specs.Segments.{selector, with_selector}
-use Rattle.desc_table.specs.Rows.{rows_from, rows_start}
+use Rattle.std.proofs.Common.{◌∙◌, ap, arith}
+use Rattle.client_world.specs.{declared.registers.Regs.{Regs}, Segments.{with_selector}}
 use Rattle.host_memory.specs.Layout.{world_of}
-use Rattle.guest_space.specs.declared.hidden_parts.Hidden.{Hidden}
-use Rattle.guest_space.specs.HiddenParts.{all_found, number, part_of_selector}
-use Rattle.guest_space.proofs.ChangedRegs.{changed_regs}
-use Rattle.guest_space.proofs.HiddenLaws.{found_changed, found_loaded}
-use Rattle.guest_space.proofs.OwnParts.{regs_sound}
+use Rattle.guest_space.proofs.{ChangedRegs.{changed_regs}, HiddenLaws.{found_changed, found_loaded}, OwnParts.{regs_sound}}
 use Rattle.guest_space.proofs.machine.Machine.set_selector.Goals as goal
 
 pub invariant_of-self : goal.invariant_of-self

@@ -1,9 +1,7 @@
-use Rattle.std.proofs.Common.{rules, ◌≡◌, ◌+◌, ◌%◌, ◌≤◌, ◌∙◌, sym, ap, arith, Some, true}
+use Rattle.std.proofs.Common.{◌+◌, ◌%◌, ◌≤◌, ◌∙◌, sym, arith, true}
 use Rattle.client_world.specs.declared.host_frames.TheConstants.{PAGE_SIZE}
-use Rattle.guest_space.specs.Transfer.{linear_access, fault_of}
-use Rattle.guest_space.proofs.Puts.{store_is}
-use Rattle.guest_space.proofs.Runs.{run_all, run_inside, first_part_fails, no_fault, is_in}
-use Rattle.guest_space.proofs.Insides.{view_of, machine_inside, stored_whole}
+use Rattle.guest_space.proofs.{Puts.{store_is}, Runs.{run_all, run_inside, first_part_fails, no_fault, is_in}, Insides.{view_of}}
+use Rattle.guest_space.proofs.Insides.{machine_inside, stored_whole}
 use Rattle.guest_space.proofs.machine.Machine.store.Goals as goal
 
 pub returns-in_err-at-clause-refused : goal.returns-in_err-at-clause-refused

@@ -1,7 +1,6 @@
 use Rattle.std.proofs.Common.{◌∙◌, sym, arith}
 use Rattle.host_memory.proofs.HostTables.{tables_inside}
-use Rattle.guest_space.proofs.Runs.{translated_by_walk, translated_by_failure}
-use Rattle.guest_space.proofs.Insides.{machine_inside}
+use Rattle.guest_space.proofs.{Runs.{translated_by_walk, translated_by_failure}, Insides.{machine_inside}}
 use Rattle.guest_space.proofs.machine.Machine.walk_to.Goals as goal
 
 pub walk-requires-clause-tables : goal.walk-requires-clause-tables

@@ -1,7 +1,5 @@
-use Rattle.std.proofs.Common.{rules, ◌≡◌, ◌∙◌, ◌≤◌, ◌%◌, ℕ, ◌+◌, ap, refl, false, arith}
-use Rattle.client_world.specs.declared.segments.SegReg.TheVariants.{Cs}
-use Rattle.client_world.specs.declared.host_frames.TheConstants.{PAGE_SIZE}
-use Rattle.client_world.specs.Access.{linear, segment_base}
+use Rattle.std.proofs.Common.{rules, ◌≡◌, ◌≤◌, ◌%◌, ◌+◌, ap, refl, arith}
+use Rattle.client_world.specs.{declared.host_frames.TheConstants.{PAGE_SIZE}, Access.{linear}}
 use Rattle.guest_space.proofs.Runs.{is_in}
 use Rattle.guest_space.proofs.machine.Machine.window_from.Goals as goal
 

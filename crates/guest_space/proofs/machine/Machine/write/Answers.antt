@@ -1,6 +1,5 @@
 use Rattle.std.proofs.Common.{arith}
-use Rattle.guest_space.proofs.Accesses.{write_done, write_refused}
-use Rattle.guest_space.proofs.MachineLaws.{stored_or_kept}
+use Rattle.guest_space.proofs.{Accesses.{write_done, write_refused}, MachineLaws.{stored_or_kept}}
 use Rattle.guest_space.proofs.machine.Machine.write.Goals as goal
 
 pub returns-in-Some-clause-done : goal.returns-in-Some-clause-done

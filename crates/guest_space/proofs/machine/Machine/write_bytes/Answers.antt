@@ -1,6 +1,5 @@
-use Rattle.std.proofs.Common.{◌∙◌, sym, true, length, arith}
-use Rattle.guest_space.proofs.Fars.{reachable_linear, far_written_linear, reachable_not_refused}
-use Rattle.guest_space.proofs.MachineLaws.{far_made}
+use Rattle.std.proofs.Common.{length, arith}
+use Rattle.guest_space.proofs.{Fars.{reachable_linear, far_written_linear, reachable_not_refused}, MachineLaws.{far_made}}
 use Rattle.guest_space.proofs.machine.Machine.write_bytes.Goals as goal
 
 pub put-requires-clause-writable : goal.put-requires-clause-writable

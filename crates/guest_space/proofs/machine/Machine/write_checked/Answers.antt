@@ -1,5 +1,4 @@
-use Rattle.std.proofs.Common.{rules, ◌≡◌, ◌∙◌, sym, Some, true, arith}
-use Rattle.guest_space.specs.Transfer.{access_fault}
+use Rattle.std.proofs.Common.{◌∙◌, sym, arith}
 use Rattle.guest_space.proofs.Accesses.{refusal_refused, write_done, write_refused}
 use Rattle.guest_space.proofs.machine.Machine.write_checked.Goals as goal
 

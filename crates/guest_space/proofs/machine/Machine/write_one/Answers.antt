@@ -1,8 +1,5 @@
-use Rattle.std.proofs.Common.{◌∙◌, ap, sym, arith}
-use Rattle.guest_space.specs.Pending.{byte_count, number_bytes}
-use Rattle.host_memory.specs.Vectors.{word_bytes}
-use Rattle.guest_space.proofs.MachineLaws.{written_or_kept}
-use Rattle.guest_space.proofs.Writes.{answered, other_bytes, other_count}
+use Rattle.std.proofs.Common.{arith}
+use Rattle.guest_space.proofs.{MachineLaws.{written_or_kept}, Writes.{answered, other_bytes, other_count}}
 use Rattle.guest_space.proofs.machine.Machine.write_one.Goals as goal
 
 pub returns-then-x-eq8-clause-made : goal.returns-then-x-eq8-clause-made

@@ -1,5 +1,4 @@
-use Rattle.std.proofs.Common.{◌∙◌, ◌+◌, sym, ap, refl, drop, arith}
-use Rattle.guest_space.specs.Pending.{first_write_fault}
+use Rattle.std.proofs.Common.{◌∙◌, sym, refl, arith}
 use Rattle.guest_space.proofs.Writes.{left_from, none_refused, left_none, left_written, none_left}
 use Rattle.guest_space.proofs.machine.Machine.write_probed.Goals as goal
 

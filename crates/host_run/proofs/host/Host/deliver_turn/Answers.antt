@@ -1,15 +1,10 @@
 use Rattle.std.proofs.Common.{◌≡◌, ◌∙◌, Ok, Result, ap, rules, subst, sym}
-use Rattle.client_world.specs.declared.faults.Fault.{Fault}
-use Rattle.client_world.specs.declared.outcome.Exit.{Exit}
-use Rattle.client_world.specs.declared.registers.Mode.{Mode}
+use Rattle.client_world.specs.{declared.faults.Fault.{Fault}, declared.outcome.Exit.{Exit}, declared.registers.Mode.{Mode}}
 use Rattle.client_world.specs.declared.registers.Mode.TheVariants.{Real, Protected}
-use Rattle.fault_service.specs.ByMode.{delivery}
-use Rattle.fault_service.specs.Delivery.{protected_delivery}
-use Rattle.fault_service.specs.Memory.{DeliveryLaw}
+use Rattle.fault_service.specs.{ByMode.{delivery}, Delivery.{protected_delivery}, Memory.{DeliveryLaw}}
 use Rattle.host_memory.specs.View.{MachineView}
 use Rattle.interrupts.specs.Delivery.{real_delivery}
-use Rattle.host_run.specs.OtherTurns.{exception_turn}
-use Rattle.host_run.specs.View.{machine_view}
+use Rattle.host_run.specs.{OtherTurns.{exception_turn}, View.{machine_view}}
 use Rattle.host_run.proofs.host.Host.deliver_turn.Goals as goal
 
 -- in protected mode it is the delivery of that mode

@@ -1,9 +1,8 @@
 use Rattle.std.proofs.Common.{rules, ap, subst, sym}
 use Rattle.guest_space.specs.declared.windows.CodeWindow.{CodeWindow}
 use Rattle.host_run.specs.Windows.{HasWindow}
-use Rattle.host_run.proofs.WindowStarts.{no_starts, outside_rom}
+use Rattle.host_run.proofs.{WindowStarts.{no_starts, outside_rom}, host.Host.move_window.Goals.{then-not-is_outside, else-not-is_outside}}
 use Rattle.host_run.proofs.host.Host.move_window.Goals as goal
-use Rattle.host_run.proofs.host.Host.move_window.Goals.{then-not-is_outside, else-not-is_outside}
 
 pub returns-clause-window : goal.returns-clause-window
 returns-clause-window c = elim c.if-not-is_outside.branch [

@@ -1,9 +1,6 @@
 use Rattle.std.proofs.Common.{arith, refl, sym, ◌∙◌, ap}
-use Rattle.host_run.specs.Run.{turns}
-use Rattle.host_run.specs.Turn.{turn}
-use Rattle.host_run.specs.View.{HostView}
-use Rattle.host_run.proofs.WindowStarts.{no_starts}
-use Rattle.host_run.proofs.Runs.{run_ended, run_over, turns_more}
+use Rattle.host_run.specs.{Run.{turns}, Turn.{turn}, View.{HostView}}
+use Rattle.host_run.proofs.{WindowStarts.{no_starts}, Runs.{run_ended, run_over, turns_more}}
 use Rattle.host_run.proofs.host.Host.run.Goals as goal
 
 pub returns-in-Some-clause-world : goal.returns-in-Some-clause-world

@@ -1,7 +1,5 @@
 use Rattle.std.proofs.Common.{◌≡◌, ◌≤◌, ◌+◌, None}
-use Rattle.host_run.specs.Run.{turns}
-use Rattle.host_run.specs.View.{machine_view}
-use Rattle.host_run.specs.Windows.{HasWindow}
+use Rattle.host_run.specs.{Run.{turns}, View.{machine_view}, Windows.{HasWindow}}
 use Rattle.host_run.proofs.host.Host.run.Given as goal
 
 abbrev pub invariant-loop-count : goal.invariant-loop-count

@@ -1,7 +1,6 @@
 use Rattle.std.proofs.Common.{ap, subst, sym}
 use Rattle.host_memory.specs.View.{MachineView}
-use Rattle.host_run.specs.View.{machine_view}
-use Rattle.host_run.specs.Windows.{IsFound}
+use Rattle.host_run.specs.{View.{machine_view}, Windows.{IsFound}}
 use Rattle.host_run.proofs.host.Host.step_client.Goals as goal
 
 pub step_machine-requires : goal.step_machine-requires
