@@ -5,6 +5,7 @@
 //! (`row_bytes`).
 #![tactic(auto)]
 
+pub mod access_bits;
 mod packing;
 mod rows;
 

@@ -4,25 +4,11 @@ ghost use Rattle.client_world.specs.{declared.descriptors.Desc.{Desc}, Registers
 ghost use Rattle.client_world.specs.Descriptor.{kind_bits, packed, FitsDescriptor, Packs};
 ghost use Rattle.desc_table.specs.Unpacked.{is_access_byte, kind_of, is_packed, described, unpacked, with_accessed};
 
+use crate::access_bits::{
+    ACCESSED, CONFORMING, EXECUTABLE, EXPAND_DOWN, PRESENT, READABLE, SEGMENT_AT_LEVEL_3, WRITABLE,
+};
 use byteorder::{ByteOrder, LittleEndian};
 use client_world::{Desc, Kind, is_set, weight};
-
-// The bits of the access byte. Bits 1 and 2 mean writable and expand-down in data, readable and conforming in code.
-const WRITABLE: u32 = 0x02;
-
-const READABLE: u32 = 0x02;
-
-const EXPAND_DOWN: u32 = 0x04;
-
-const CONFORMING: u32 = 0x04;
-
-const EXECUTABLE: u32 = 0x08;
-
-const SEGMENT_AT_LEVEL_3: u32 = 0x70;
-
-const PRESENT: u32 = 0x80;
-
-const ACCESSED: u32 = 0x01;
 
 // The bits of the byte after it.
 const AVAILABLE: u32 = 0x10;

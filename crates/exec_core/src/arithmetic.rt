@@ -44,6 +44,24 @@ macro_rules! at_known_width {
 pub(crate) use at_known_width;
 pub(crate) use at_width;
 
+// Does something with a register's number, once for each, so that the compiler knows the register.
+macro_rules! at_register {
+    ($number:expr, $n:ident => $body:expr) => {
+        match $number {
+            0 => { let $n = 0u8; $body }
+            1 => { let $n = 1u8; $body }
+            2 => { let $n = 2u8; $body }
+            3 => { let $n = 3u8; $body }
+            4 => { let $n = 4u8; $body }
+            5 => { let $n = 5u8; $body }
+            6 => { let $n = 6u8; $body }
+            $n => $body,
+        }
+    };
+}
+
+pub(crate) use at_register;
+
 // Replaces the first operand by a result, and sets the flags. `$a` names its old value in `$result`, which gives result and flags; `$b`
 // names the second operand's, of its own width, where the operation has one.
 macro_rules! change_first {
@@ -62,10 +80,12 @@ macro_rules! change_first {
             Operand::Reg { width, number } => {
                 let (own, number) = (register_width::<$look>($width, *width)?, *number);
                 $(let $b = $look::source($m, $i.addr32, $second_width, &$i.second)?;)?
-                let $a = register($m.registers(), own, number);
-                let (v, flags) = $result;
-                $m.set_flags(flags);
-                put_register($m, own, number, v);
+                at_register!(number, n => {
+                    let $a = register($m.registers(), own, n);
+                    let (v, flags) = $result;
+                    $m.set_flags(flags);
+                    put_register($m, own, n, v);
+                });
                 Ok(())
             }
             first => {
@@ -82,13 +102,30 @@ macro_rules! change_first {
 
 pub(crate) use change_first;
 
+// The flags, each read by itself: then the compiler knows that it is 0 or 1, and stores none that an operation keeps.
+#[inline(always)]
+pub(crate) fn flags_of(m: &Machine) -> Flags
+    ensures { result ≡ m.now.world.regs.flags }
+{
+    let f = &m.registers().flags;
+    Flags {
+        cf: f.cf,
+        pf: f.pf,
+        af: f.af,
+        zf: f.zf,
+        sf: f.sf,
+        df: f.df,
+        of: f.of,
+    }
+}
+
 // The result and the flags of an operation of two numbers.
 #[inline(always)]
 fn result_of<const W: u8, O: BinaryAt<W>>(m: &Machine, a: u32, b: u32) -> (u32, Flags)
     requires { IsWidth W }
     ensures { result ≡ O.formula W (cut W a) (cut W b) m.now.world.regs.flags }
 {
-    let f = m.registers().flags;
+    let f = flags_of(m);
     let (v, flags) = O::apply(cut::<W>(u64::from(a)), cut::<W>(u64::from(b)), f);
     (v.get(), flags)
 }
@@ -168,7 +205,7 @@ fn result_of_one<const W: u8, O: UnaryAt<W>>(m: &Machine, a: u32) -> (u32, Flags
     requires { IsWidth W }
     ensures { result ≡ O.formula W (cut W a) m.now.world.regs.flags }
 {
-    let (v, flags) = O::apply(cut::<W>(u64::from(a)), m.registers().flags);
+    let (v, flags) = O::apply(cut::<W>(u64::from(a)), flags_of(m));
     (v.get(), flags)
 }
 

@@ -6,7 +6,7 @@ ghost use Rattle.exec_core.specs.Shifts.{DoubleFormula, shift, shift_in};
 ghost use Rattle.insn_forms.specs.Kinds.{is_width};
 ghost use Rattle.insn_plan.specs.{Looks.{CarriesOutBy}, Plan.{CarriesOut}};
 
-use crate::arithmetic::{at_width, change_first};
+use crate::arithmetic::{at_register, at_width, change_first, flags_of};
 use crate::shift_operations::{Shift, ShiftAt};
 use client_world::Flags;
 use cpu_alu::{shld, shrd};
@@ -24,7 +24,7 @@ fn shifted<const W: u8, O: ShiftAt<W>>(m: &Machine, a: u32, n: u8) -> (u32, Flag
     requires { IsWidth W }
     ensures { result ≡ O.formula W (cut W a) n m.now.world.regs.flags }
 {
-    let (v, flags) = O::apply(cut::<W>(u64::from(a)), n, m.registers().flags);
+    let (v, flags) = O::apply(cut::<W>(u64::from(a)), n, flags_of(m));
     (v.get(), flags)
 }
 

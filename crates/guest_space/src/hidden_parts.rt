@@ -10,17 +10,11 @@ use client_world::faults::GENERAL_PROTECTION;
 use client_world::memory_map::{PARAGRAPH_SIZE, SEGMENT_SIZE};
 use client_world::selectors::{index_of, is_local, is_null};
 use client_world::{Desc, Fault, Mode, Origin, Regs, SegReg, is_set};
+use desc_table::access_bits::{EXECUTABLE, EXPAND_DOWN, WRITABLE};
 use desc_table::{access_byte, look};
 use guest_ram::Ram;
 
-// The bits of the access byte.
-const WRITABLE: u32 = 0x02;
-
-const EXPAND_DOWN: u32 = 0x04;
-
-const EXECUTABLE: u32 = 0x08;
-
-// That of present data that may be written, which every segment is in real mode.
+// The access byte of present data that may be written, which every segment is in real mode.
 const REAL_ACCESS: u8 = 0xF3;
 
 // The number of bytes up to the greatest offset of a segment of 16 bits, and of one of 32.

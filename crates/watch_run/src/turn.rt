@@ -112,11 +112,34 @@ fn watching_turn_in(h: &mut Host, w: &mut Watches, window: &mut CodeWindow) -> R
     }
 }
 
+// The turn of a client that is at no start of the window that is there, or has watchpoints.
+#[cold]
+#[inline(never)]
+#[tactic(auto, unfolding(crate::specs::Turn::turn_with_watchpoints), using(crate::proofs::TurnParts::none_watched, //
+crate::proofs::TurnParts::not_called))]
+fn turn_elsewhere(h: &mut Host, w: &mut Watches, window: &mut CodeWindow) -> Result<(), Ended>
+    requires no_exit { h.old.world.exit ≡ None }
+    requires room { h.old.world.steps < MAX_STEPS }
+    requires window { HasWindow (machine_view h.old) window.old }
+    ensures turn { MakesWatchedTurn h.old h.new w.old w.new (turn_answer h.new.world.exit) }
+    ensures answer { AnswersBy result h.new.world.exit }
+    ensures window { HasWindow (machine_view h.new) window.new }
+{
+    if !w.is_unused() {
+        return watching_turn_in(h, w, window);
+    }
+    let Some(from) = h.find_start(window) else {
+        return watching_turn_in(h, w, window);
+    };
+    h.no_trap_in(window, from);
+    h.turn_in_window(window, from)
+}
+
 /// One turn, as `watch_turn` makes it, of a client that has not ended, with a window of code that turns hand on. It answers only whether
 /// the run has ended. Source: own.
 #[inline(always)]
 #[tactic(auto, unfolding(crate::specs::Turn::turn_with_watchpoints), using(crate::proofs::TurnParts::none_watched, //
-crate::proofs::TurnParts::not_called))]
+crate::proofs::TurnParts::not_called, host_run::proofs::WindowStarts::start_found))]
 pub fn next_watched_turn(
     h: &mut Host,
     w: &mut Watches,
@@ -131,12 +154,12 @@ pub fn next_watched_turn(
 {
     // Nothing is watched, no hit waits, and a client's instruction calls no function: the turn is the host's.
     if w.is_unused() {
-        if let Some(from) = h.find_start(window) {
+        if let Some(from) = window.place_of(h.machine().registers()) {
             h.no_trap_in(window, from);
             return h.turn_in_window(window, from);
         }
     }
-    watching_turn_in(h, w, window)
+    turn_elsewhere(h, w, window)
 }
 
 /// One turn of a host with its client's watchpoints. In protected mode a hit that is due is delivered as exception 1, in a turn of its own;
