@@ -13,10 +13,10 @@ use Rattle.host_memory.proofs.{BlockRows.{row_there, held_base}, Parts.{parts_of
 use Rattle.block_memory.specs.BlockChanges.{blocks_held, CanHoldIn, CanMoveIn, CanSizeIn, HasBlockIn, HasPagesIn, ReplacesBlock, with_at}
 use Rattle.block_memory.specs.BlockSizes.{CanHold, CanMove, HasPages, at_base, block_with_zero_pages, sized_block, shorter, after_slide}
 use Rattle.block_memory.proofs.BlockSteps.{becomes, for_budget, held_still, held_there, one_budget, ranges_held, replaced_at, same_blocks}
-use Rattle.block_memory.proofs.{MoveWrites.{moved, moved_changes}, PageChanges.{block_reads}, PageCounts.{pages_of_row}}
-use Rattle.block_memory.proofs.{PageMore.{first_page}, PageParts.{block_parts}, PageWrites.{with_block_row}, RowReads.{row_base_read}}
-use Rattle.block_memory.proofs.{RowReads.{row_pages_read}, SizedBlocks.{shorter_none}, SizedCalls.{Sizing, cut_blocks, moved_blocks}}
-use Rattle.block_memory.proofs.{SizedCalls.{can_move, can_extend, sized_blocks}, SizedSound.{length-bytes, moved_sound, moved_fits}}
+use Rattle.block_memory.proofs.{MoveWrites.{moved, moved_changes}, PageChanges.{block_reads}, PageSums.{pages_of_row}}
+use Rattle.block_memory.proofs.{PageMore.{first_page}, PageParts.{block_parts}, PageWrites.{with_block_row, row_base_read, row_pages_read}}
+use Rattle.block_memory.proofs.{BlockRuns.{shorter_none}, SizedCalls.{Sizing, cut_blocks, moved_blocks, can_move, can_extend, sized_blocks}}
+use Rattle.block_memory.proofs.SizedSound.{length-bytes, moved_sound, moved_fits}
 
 -- a block that is held has a page
 some_pages : (blocks : List (Option MemoryBlock)) (budget place : ℕ) → SoundBlocks blocks budget → (o : Option MemoryBlock) →

@@ -13,8 +13,8 @@ use Rattle.page_tables.specs.{Mapping.{IsUnmapped}, Walk.{frame_of}}
 use Rattle.page_tables.proofs.MapLaws.{with_entry}
 use Rattle.host_memory.specs.{Holds.{Holds, ListsFreeFrames}, Layout.{world_of, handles_part, tables_part, locks_part, budget_part}}
 use Rattle.host_memory.specs.Layout.{taken_part, entry_of}
-use Rattle.host_memory.proofs.{BlockRows.{HasRanges, IsRange, ranges}, FreeParts.{list_of_parts}, HostTables.{has_tables}}
-use Rattle.host_memory.proofs.Parts.{MemoryParts, parts_of, holds_parts}
+use Rattle.host_memory.proofs.{BlockRows.{HasRanges, IsRange, ranges}, Parts.{list_of_parts, MemoryParts, parts_of, holds_parts}}
+use Rattle.host_memory.proofs.HostTables.{has_tables}
 use Rattle.block_memory.specs.BlockChanges.{blocks_held, CanHoldIn, HasPagesIn, HoldsSoundBlocks, ReplacesBlock, ReplacesBlocks, with_at}
 use Rattle.block_memory.specs.BlockSizes.{longer, shorter}
 use Rattle.block_memory.proofs.PageChanges.{ChangesBlocks, HasLast, HasLastFrame, last_frame, last_range, has_last_frame, may_shrink}

@@ -7,15 +7,11 @@ pub mod FreeSteps
 pub mod LockWrites
 pub mod MoveWrites
 pub mod PageChanges
-pub mod PageCounts
+pub mod PageSums
 pub mod PageMore
 pub mod PageParts
-pub mod PageSums
 pub mod PageWrites
 pub mod RegionPages
-pub mod RowReads
-pub mod SizedBlocks
 pub mod SizedCalls
 pub mod SizedSound
-pub mod SlideLaws
 pub mod ZeroWrites

@@ -11,7 +11,7 @@ use Rattle.guest_ram.proofs.{PutLaws.{put_away, put_within}, ListedLaws.{same_li
 use Rattle.block_memory.specs.{BlockSizes.{IsBlocks, lock_in, with_lock}, BlockChanges.{blocks_held}}
 use Rattle.host_memory.specs.{Holds.{Holds, KeepsLocks}, Layout.{world_of, address_of, handles_part, rows_part, base_of, pages_of}}
 use Rattle.host_memory.specs.{Layout.{first_page_of, lock_of, held_block, block_in, blocks_in}, Vectors.{word_bytes}}
-use Rattle.host_memory.proofs.{BlockBytes.{apart_pages, page_small}, BlockRows.{HasRanges, over_tells, block_there, held_lock, row_there}}
+use Rattle.host_memory.proofs.{ClientPlaces.{apart_pages, page_small}, BlockRows.{HasRanges, over_tells, block_there, held_lock, row_there}}
 use Rattle.host_memory.proofs.{BlockRows.{row_free, block_at_row}, Parts.{MemoryParts, parts_of, holds_by, holds_parts, addresses_of}}
 use Rattle.host_memory.proofs.{Parts.{own_parts}, PutParts.{Locks, put_part}}
 use Rattle.block_memory.proofs.{PageChanges.{world_after}, PageWrites.{host_of, sizes_of}, RegionPages.{InRegion, page_at}}

@@ -13,13 +13,13 @@ use Rattle.page_tables.specs.Walk.{table_entry, frame_of}
 use Rattle.block_memory.specs.{BlockChanges.{blocks_held}, BlockSizes.{CanHold, longer, shorter}}
 use Rattle.host_memory.specs.{Holds.{Holds}, Layout.{world_of, address_of, rows_part, vectors_part, handles_part, tables_part, taken_part}}
 use Rattle.host_memory.specs.{Layout.{base_of, pages_of, first_page_of, entry_of, held_block}, Tables.{NamesBudgetFrame}}
-use Rattle.block_memory.proofs.{BlockMore.{block_of, blocks_of, more_blocks, less_blocks}, PageCounts.{used_front, pages_of_row}}
-use Rattle.block_memory.proofs.{PageCounts.{all_pages_are}, PageMore.{BlockParts, HasRoom, HasPageMore, region_page, page_inside, is_away}}
+use Rattle.block_memory.proofs.{BlockMore.{block_of, blocks_of, more_blocks, less_blocks}, PageSums.{used_front, pages_of_row}}
+use Rattle.block_memory.proofs.{PageSums.{all_pages_are}, PageMore.{BlockParts, HasRoom, HasPageMore, region_page, page_inside, is_away}}
 use Rattle.block_memory.proofs.{PageMore.{first_new, first_old, first_other}, PageParts.{block_parts, MayGrow, MayShrink, grown_parts}}
 use Rattle.block_memory.proofs.PageParts.{grown_more, grown_beside, grown_zero, grown_unlocked, grown_holds, shrunk_parts, shrunk_less}
 use Rattle.block_memory.proofs.{PageParts.{shrunk_beside, shrunk_holds}, PageWrites.{InBudget, grown, grown_has, shrunk, shrunk_has}}
 use Rattle.block_memory.proofs.{PageWrites.{sizes_of, host_of, page_in_region, page_is}, RegionPages.{region_entry, taken_byte}}
-use Rattle.host_memory.proofs.{BlockRows.{HasRanges, IsRange, held_base, length-held_bytes, row_there, row_at_block}, FreeParts.{head_is}}
+use Rattle.host_memory.proofs.{BlockRows.{HasRanges, IsRange, held_base, length-held_bytes, row_there, row_at_block}, Parts.{head_is}}
 use Rattle.host_memory.proofs.{Parts.{HasParts, MemoryParts, parts_of, world_by, holds_by, holds_parts}, VectorParts.{put_head}}
 use Rattle.host_memory.proofs.VectorWrites.{head_lists, same_lists}
 

@@ -8,12 +8,12 @@ use Rattle.client_world.specs.declared.host_frames.TheConstants.{PAGE_ENTRY_SIZE
 use Rattle.client_world.specs.{declared.limits.TheConstants.{MAX_BLOCKS, MAX_PAGES}, declared.memory_map.TheConstants.{BLOCK_REGION_PAGES}}
 use Rattle.guest_ram.specs.{Bytes.{put, dword, dword_bytes}, Listed.{copies}, Count.{used}}
 use Rattle.guest_ram.proofs.{ListedLaws.{length-copies, at_copies}, PutLaws.{length-put, put_away, put_within, dword_put, dword_put_other}}
-use Rattle.page_tables.proofs.FreeWrites.{dword_put_beside}
+use Rattle.page_tables.proofs.FreeFrames.{dword_put_beside}
 use Rattle.host_memory.specs.{Holds.{KeepsHandles, ListsFreeFrames, all_pages}, Layout.{base_of, pages_of, entry_of, lock_of}}
 use Rattle.host_memory.specs.Vectors.{head_start}
 use Rattle.host_memory.proofs.{BlockRows.{IsRange, HasRanges}, Parts.{MemoryParts, HoldsParts}, VectorParts.{keeps_head, put_head}}
-use Rattle.block_memory.proofs.{PageCounts.{used_more, one_page_more}, PageMore.{BlockParts, HasRoom, HasPageMore, AgreesBeside}}
-use Rattle.block_memory.proofs.PageMore.{region_page, budget_entry, page_inside, page_outside, grows, shrinks, entries_kept, locks_kept}
+use Rattle.block_memory.proofs.{PageSums.{used_more, one_page_more}, PageMore.{BlockParts, HasRoom, HasPageMore, AgreesBeside, region_page}}
+use Rattle.block_memory.proofs.PageMore.{budget_entry, page_inside, page_outside, grows, shrinks, entries_kept, locks_kept}
 use Rattle.block_memory.proofs.FreeSteps.{list_given, list_taken}
 
 -- the parts that blocks lie in

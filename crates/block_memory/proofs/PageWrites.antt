@@ -1,19 +1,37 @@
 -- The writes that give a page to a block and take it away, as what they make of the parts of the memory. Between them the host's own
--- entries stay, so that each step may be made.
-use Rattle.std.proofs.Common.{◌≡◌, ℕ, ◌+◌, ◌-◌, ◌*◌, ◌<◌, ◌≤◌, true, List, [], ◌∷◌, length, slice_set, refl, ap, ◌∙◌, arith}
-use Rattle.client_world.specs.declared.host_frames.TheConstants.{PAGE_SIZE, BLOCK_ROWS, LOCK_COUNTS, BUDGET_FRAMES, BLOCK_ROW_SIZE}
-use Rattle.client_world.specs.declared.host_frames.TheConstants.{LOCK_COUNT_SIZE, PAGE_ENTRY_SIZE}
-use Rattle.client_world.specs.declared.limits.TheConstants.{MAX_BLOCKS, MAX_PAGES}
-use Rattle.guest_ram.specs.{Bytes.{put, dword, dword_bytes}, Listed.{copies}}
+-- entries stay, so that each step may be made. First what is read of a row of the blocks and of a lock count.
+use Rattle.std.proofs.Common.{◌≡◌, ℕ, ◌+◌, ◌*◌, ◌<◌, List, ap, ◌∙◌, arith, ◌-◌, ◌≤◌, true, [], ◌∷◌, length, slice_set, refl}
+use Rattle.client_world.specs.declared.host_frames.TheConstants.{PAGE_SIZE, BLOCK_ROWS, LOCK_COUNTS, BLOCK_ROW_FRAMES, BLOCK_ROW_SIZE}
+use Rattle.client_world.specs.declared.host_frames.TheConstants.{LOCK_COUNT_FRAMES, LOCK_COUNT_SIZE, BUDGET_FRAMES, PAGE_ENTRY_SIZE}
+use Rattle.client_world.specs.{declared.memory_map.TheConstants.{BLOCK_REGION_PAGES}, declared.limits.TheConstants.{MAX_BLOCKS, MAX_PAGES}}
+use Rattle.guest_ram.specs.{Bytes.{dword, word_of, put, dword_bytes}, Listed.{copies}}
+use Rattle.host_memory.specs.{HoldsWorld.{frame_place}, Layout.{handles_part, locks_part, base_of, pages_of, lock_of}, Holds.{Holds}}
+use Rattle.host_memory.specs.{Tables.{HasFixedEntries}, Vectors.{head_start}}
+use Rattle.host_memory.proofs.{Parts.{part_dword, part_word, head_is, next_is, HasParts, MemoryParts, parts_of}, BlockRows.{IsRange}}
+use Rattle.host_memory.proofs.{VectorParts.{put_head}, PutParts.{Frames, Handles, Locks, Tables, Taken, Vectors, put_part}}
 use Rattle.guest_ram.proofs.{ListedLaws.{length-copies}, PutLaws.{length-region}}
 use Rattle.page_tables.specs.{Budget.{taken_place}, FreeList.{with_head, without_head}, declared.budget.TheConstants.{FREE_LIST_HEAD}}
 use Rattle.page_tables.specs.Entry.{page_entry}
 use Rattle.page_tables.proofs.MapLaws.{with_entry}
-use Rattle.host_memory.specs.{Holds.{Holds}, Tables.{HasFixedEntries}, Vectors.{head_start}}
-use Rattle.host_memory.proofs.{BlockRows.{IsRange}, FreeParts.{head_is, next_is}, VectorParts.{put_head}, Parts.{HasParts, MemoryParts}}
-use Rattle.host_memory.proofs.{Parts.{parts_of}, PutParts.{Frames, Handles, Locks, Tables, Taken, Vectors, put_part}}
 use Rattle.block_memory.proofs.{PageMore.{region_page, budget_entry}, PageParts.{HasSizes, grown_parts, shrunk_parts, with_row}}
 use Rattle.block_memory.proofs.{PageParts.{base_in_row}, RegionPages.{HasHost, InRegion, page_at, region_place}}
+
+-- a row that is read
+pub row_pages_read : (b : List ℕ) (place n : ℕ) → place < MAX_BLOCKS → n ≡ dword b (PAGE_SIZE * BLOCK_ROWS + BLOCK_ROW_SIZE * place + 4) →
+    n ≡ pages_of (handles_part b) place
+row_pages_read b place n within e =
+    e ∙ ap (dword b) (let p : PAGE_SIZE * BLOCK_ROWS + BLOCK_ROW_SIZE * place + 4 ≡ frame_place BLOCK_ROWS (BLOCK_ROW_SIZE * place + 4) =
+    omega arith in p)
+    ∙ part_dword b BLOCK_ROWS BLOCK_ROW_FRAMES (BLOCK_ROW_SIZE * place + 4) (omega arith)
+
+pub row_base_read : (b : List ℕ) (place n : ℕ) → place < MAX_BLOCKS → n ≡ dword b (PAGE_SIZE * BLOCK_ROWS + BLOCK_ROW_SIZE * place) →
+    n ≡ base_of (handles_part b) place
+row_base_read b place n within e = e ∙ part_dword b BLOCK_ROWS BLOCK_ROW_FRAMES (BLOCK_ROW_SIZE * place) (omega arith)
+
+-- a lock count that is read
+pub lock_read : (b : List ℕ) (page n : ℕ) → page < BLOCK_REGION_PAGES → n ≡ word_of b (PAGE_SIZE * LOCK_COUNTS + LOCK_COUNT_SIZE * page) →
+    n ≡ lock_of (locks_part b) page
+lock_read b page n small e = e ∙ part_word b LOCK_COUNTS LOCK_COUNT_FRAMES (LOCK_COUNT_SIZE * page) (omega arith)
 
 -- the parts have their sizes
 pub sizes_of : (b : List ℕ) (budget : ℕ) → HasHost b budget → HasSizes (parts_of b budget) budget

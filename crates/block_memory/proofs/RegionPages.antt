@@ -11,11 +11,11 @@ use Rattle.guest_ram.proofs.PutLaws.{at_region, dword-region}
 use Rattle.page_tables.specs.{Entry.{page_entry}, Budget.{HasBudget, IsNamedNowhere}, Mapping.{HasTables, IsCovered, IsMapped, IsUnmapped}}
 use Rattle.page_tables.specs.Walk.{directory_entry, table_place, table_entry, entry_place, frame_of}
 use Rattle.page_tables.specs.declared.entry.TheConstants.{PRESENT, TABLE_SPAN}
-use Rattle.page_tables.proofs.{EntryLaws.{page_entry_present}, HostDirectory.{HasTables-host_directory}}
+use Rattle.page_tables.proofs.{MapLaws.{page_entry_present}, HostDirectory.{HasTables-host_directory}}
 use Rattle.host_memory.specs.{Layout.{fixed_part, tables_part, taken_part, first_page_of, entry_of}, Tables.{HasFixedEntries}}
 use Rattle.host_memory.specs.Tables.{HasBlockEntries, NamesBudgetFrame, low_entry_at, window_entry_at}
-use Rattle.host_memory.proofs.{BlockRows.{HasRanges, over_tells}, FixedWalks.{directory_is, directory_of_block, directory_of_none}}
-use Rattle.host_memory.proofs.{FixedWalks.{block_table}, HostTables.{host_directory}, Parts.{HasSize}}
+use Rattle.host_memory.proofs.{BlockRows.{HasRanges, over_tells}, HostTables.{directory_is, directory_of_block, directory_of_none}}
+use Rattle.host_memory.proofs.{HostTables.{block_table, host_directory}, Parts.{HasSize}}
 
 -- what stays while a page is mapped: the size, the budget, and the host's own entries
 pub record HasHost (b : List ℕ) (budget : ℕ) : Type 0 where

@@ -4,7 +4,7 @@ use Rattle.std.proofs.{Common.{arith, Option, None, Some, get_or-set_same, get_o
 use Rattle.std.specs.Prelude.{min}
 use Rattle.client_world.specs.{Soundness.{SoundBlocks, pages_of_block, pages_of_blocks}, World.{MemoryBlock, base_of_block}}
 use Rattle.block_memory.specs.BlockSizes.{CanHold, CanMove, CanSize, HasPages, shorter, block_with_zero_pages, at_base, sized_block}
-use Rattle.block_memory.proofs.{SizedBlocks.{resized_is}, SizedSound.{pages_put}}
+use Rattle.block_memory.proofs.{BlockRuns.{resized_is}, SizedSound.{pages_put}}
 
 abbrev held : List (Option MemoryBlock) → ℕ → Option MemoryBlock
 held blocks place = slice_index_or blocks place None

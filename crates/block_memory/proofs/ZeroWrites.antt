@@ -9,12 +9,12 @@ use Rattle.guest_ram.specs.{Bytes.{put}, Listed.{listed, copies}}
 use Rattle.guest_ram.proofs.{PutLaws.{length-put, put_away, put_within}, ListedLaws.{length-listed, at_listed, same_listed, listed-set}}
 use Rattle.guest_ram.proofs.ListedLaws.{length-copies, at_copies}
 use Rattle.block_memory.specs.{BlockSizes.{IsBlocks, blocks_with_zero_page, with_zero_page}, BlockChanges.{blocks_held}}
-use Rattle.page_tables.proofs.FreeWrites.{dword_put_beside}
+use Rattle.page_tables.proofs.FreeFrames.{dword_put_beside}
 use Rattle.host_memory.specs.{Holds.{Holds}, Layout.{world_of, address_of, handles_part, tables_part, rows_part, pages_of, first_page_of}}
 use Rattle.host_memory.specs.{Layout.{entry_of, page_byte, held_block, block_in, blocks_in}, Tables.{HasBlockEntries, NamesBudgetFrame}}
-use Rattle.host_memory.proofs.{BlockBytes.{apart_pages, page_small}, FreeParts.{list_kept}, IdleFrames.{entry_away}, BlockRows.{HasRanges}}
-use Rattle.host_memory.proofs.{BlockRows.{row_there, row_free, block_at_row}, Parts.{MemoryParts, parts_of, holds_by, holds_parts}}
-use Rattle.host_memory.proofs.{Parts.{addresses_of, own_parts}, PutParts.{Frames, put_part}}
+use Rattle.host_memory.proofs.{ClientPlaces.{apart_pages, page_small, entry_away}, Parts.{list_kept, MemoryParts, parts_of, holds_by}}
+use Rattle.host_memory.proofs.{Parts.{holds_parts, addresses_of, own_parts}, BlockRows.{HasRanges, row_there, row_free, block_at_row}}
+use Rattle.host_memory.proofs.PutParts.{Frames, put_part}
 use Rattle.block_memory.proofs.{LockWrites.{block_byte}, PageChanges.{world_after}, PageWrites.{host_of, sizes_of}, RegionPages.{page_at}}
 
 -- the frame of the budget that an entry names

@@ -1,13 +1,7 @@
-mod EachService
+pub mod ServiceLaws
 mod FreeLaws
-mod GapLaws
+mod SpanLists
 mod GoodBlocks
-mod HandleLaws
-pub mod KeptServices
 mod PageLaws
 mod RoomLaws
-pub mod SoundServices
 mod SpanLaws
-mod SpanLists
-mod StayLaws
-mod ViewLaws

@@ -1,16 +1,94 @@
--- A gap is room for a block.
-use Rattle.std.proofs.Common.{◌≡◌, ◌≢◌, ◌≤◌, ◌<◌, ◌+◌, ◌-◌, ◌*◌, ◌%◌, ◌⊎◌, inl, inr, ℕ, true, false, List, length, refl, ◌∙◌, ap, subst}
-use Rattle.std.proofs.{Common.{arith, Option, None, Some, nat_le}, lemmas.Bool.{and_cases, and_parts, cases_Bool, leb-true, ltb-false}}
-use Rattle.std.proofs.lemmas.Bool.{ne_eqb, not_from_false, true≢false}
-use Rattle.std.specs.Option.{is_none}
-use Rattle.client_world.specs.{declared.blocks.BlockRow.{BlockRow}, declared.host_frames.TheConstants.{PAGE_SIZE}}
-use Rattle.client_world.specs.{declared.limits.TheConstants.{MAX_BLOCKS}, declared.memory_map.TheConstants.{BLOCK_REGION, BLOCK_REGION_END}}
-use Rattle.client_world.specs.{Soundness.{SoundBlocks, pages_of_block, pages_of_blocks}, World.{MemoryBlock, block_at, base_of_block}}
-use Rattle.block_memory.specs.BlockSizes.{CanMake, CanSize, row_seen}
+-- A gap is room for a block, a block that shrinks stays where it is, and the table of function 0500h has the largest run. First pages of
+-- which none is after the view of the DOS megabyte.
+use Rattle.std.proofs.Common.{◌≡◌, ◌≤◌, ◌<◌, ◌+◌, ℕ, false, Option, None, Some, refl, nat_le, ◌≢◌, ◌*◌, inl, inr, zero, suc, true, List}
+use Rattle.std.proofs.{Common.{length, ap, arith, nat_eq, ◌-◌, ◌%◌, ◌⊎◌, ◌∙◌, subst}, lemmas.Bool.{leb-false, not-false, not-true}}
+use Rattle.std.proofs.lemmas.Bool.{and_from, and_left, and_right, cases_Bool, cases_eq, eq-eqb, le-leb, le-ltb, not_from_true, and_cases}
+use Rattle.std.proofs.lemmas.Bool.{and_parts, leb-true, ltb-false, ne_eqb, not_from_false, true≢false}
+use Rattle.std.specs.Option.{is_some, is_none}
+use Rattle.client_world.specs.{declared.memory_map.TheConstants.{DOS_VIEW_PAGES, BLOCK_REGION_END, BLOCK_REGION}, World.{World}}
+use Rattle.client_world.specs.{World.{MemoryBlock, block_at, base_of_block}, declared.host_frames.TheConstants.{PAGE_SIZE}}
+use Rattle.client_world.specs.{declared.limits.TheConstants.{MAX_BLOCKS}, Soundness.{IsSound, SoundBlocks, pages_of_block, pages_of_blocks}}
+use Rattle.client_world.specs.declared.blocks.BlockRow.{BlockRow}
 use Rattle.service_rows.specs.FirstIndex.{first_index}
-use Rattle.service_rows.proofs.IndexLaws.{first_is, first_none}
-use Rattle.block_services.specs.{Gaps.{block_in_way, first_gap, is_gap, is_in_way, page_address}, Rows.{gap_address, new_base}}
-use Rattle.block_services.proofs.HandleLaws.{handle_within}
+use Rattle.service_rows.proofs.RunLaws.{first_none, is_missing, first_is}
+use Rattle.block_services.specs.{declared.regions.Question.{Question}, declared.regions.Question.TheVariants.{IsAboveView}}
+use Rattle.block_services.specs.{Pages.{page_answer, is_in_view, some_page}, Free.{IsLargest, largest_new_block}, Gaps.{block_in_way}}
+use Rattle.block_services.specs.{Gaps.{is_gap, is_in_way, overlaps, first_gap, page_address}, Rows.{new_base, gap_address}}
+use Rattle.block_memory.specs.BlockSizes.{row_seen, CanMake, CanSize}
+use Rattle.block_services.proofs.SpanLists.{handle_within}
+
+pub none_of : (o : Option ℕ) → is_some o ≡ false → o ≡ None
+none_of None e = refl
+none_of (Some x) e = absurd cc
+
+-- the answer is no for each page
+pub no_page_holds : (question : Question) (w : World) (first n : ℕ) → some_page question w first n ≡ false → (page : ℕ) → first ≤ page →
+    page < first + n →
+    page_answer question w page ≡ false
+unfolding some_page
+no_page_holds question w first n e page from to =
+    first_none (page_answer question w) first n (none_of (first_index (page_answer question w) first n) e) page from to
+
+pub in_view : (w : World) (first n : ℕ) → some_page IsAboveView w first n ≡ false → (page : ℕ) → first ≤ page → page < first + n →
+    page < DOS_VIEW_PAGES
+in_view w first n e page from to =
+    leb-false DOS_VIEW_PAGES page
+    (not-true (nat_le DOS_VIEW_PAGES page) (not-false (is_in_view page) (no_page_holds IsAboveView w first n e page from to)))
+
+beside : (blocks : List (Option MemoryBlock)) (budget handle pages other : ℕ) (own : MemoryBlock) → SoundBlocks blocks budget →
+    block_at blocks handle ≡ Some own →
+    pages ≤ length own.locks → other ≢ handle → (b : Option MemoryBlock) → block_at blocks other ≡ b →
+    overlaps (row_seen b) own.base pages ≡ false
+beside blocks budget handle pages other own sound there few ne None e = refl
+beside blocks budget handle pages other own sound there few ne (Some block) e =
+    let size = (sound.each handle own there).pages in
+    let held = (sound.each other block e).pages in
+    grind (arith, and_left, and_right, le-ltb)
+
+not_in_way : (blocks : List (Option MemoryBlock)) (budget handle pages : ℕ) (own : MemoryBlock) → SoundBlocks blocks budget →
+    block_at blocks handle ≡ Some own →
+    pages ≤ length own.locks → (other : ℕ) → is_in_way blocks handle own.base pages other ≡ false
+not_in_way blocks budget handle pages own sound there few other = elim (cases_eq other handle) [
+  | inl same ↦ and_left _ _ (not_from_true (nat_eq other handle) (eq-eqb other handle same))
+  | inr ne ↦ and_right _ _ (beside blocks budget handle pages other own sound there few ne (block_at blocks other) refl)
+]
+
+own_gap : (blocks : List (Option MemoryBlock)) (budget handle pages : ℕ) (own : MemoryBlock) → SoundBlocks blocks budget →
+    block_at blocks handle ≡ Some own →
+    pages ≤ length own.locks → is_gap blocks handle own.base pages ≡ true
+unfolding is_gap block_in_way
+own_gap blocks budget handle pages own sound there few =
+    let is = sound.each handle own there in
+    let size = is.pages in let end = is.to in
+    and_from _ _ (le-leb (own.base + PAGE_SIZE * pages) BLOCK_REGION_END (omega arith))
+    (ap is_none (is_missing (is_in_way blocks handle own.base pages) 1 MAX_BLOCKS
+    (λ k l u. not_in_way blocks budget handle pages own sound there few k)))
+
+pub stays : (w : World) (handle pages : ℕ) (own : MemoryBlock) → IsSound w → block_at w.blocks handle ≡ Some own →
+    pages ≤ length own.locks →
+    new_base w.blocks handle pages ≡ Some own.base
+unfolding new_base
+stays w handle pages own s there few =
+    rw (ap base_of_block there, own_gap w.blocks w.budget handle pages own s.blocks there few) refl
+
+-- the largest run
+
+some_is : (o : Option ℕ) → is_some o ≡ true → o ≢ None
+some_is None e same = absurd cc
+some_is (Some x) e same = absurd cc
+
+largest_more : (blocks : List (Option MemoryBlock)) (n : ℕ) → IsLargest blocks n (largest_new_block blocks n) →
+    IsLargest blocks (suc n) (largest_new_block blocks (suc n))
+unfolding largest_new_block
+largest_more blocks n rest = grind (arith, cases_Bool, none_of, some_is)
+
+largest_none : (blocks : List (Option MemoryBlock)) → IsLargest blocks 0 (largest_new_block blocks 0)
+unfolding largest_new_block
+largest_none blocks = record { within = omega arith; free = λ some. absurd (omega arith); others = λ k above below. absurd (omega arith) }
+
+pub largest_is : (blocks : List (Option MemoryBlock)) (n : ℕ) → IsLargest blocks n (largest_new_block blocks n)
+largest_is blocks zero = largest_none blocks
+largest_is blocks (suc n) = largest_more blocks n (largest_is blocks n)
 
 -- the pages lie in the block region, and no block but that of one handle has any of them
 pub record Room (blocks : List (Option MemoryBlock)) (own base pages : ℕ) : Type 0 where

@@ -11,11 +11,10 @@ use Rattle.client_world.specs.{declared.memory_map.TheConstants.{BLOCK_REGION_PA
 use Rattle.client_world.specs.World.{block_at}
 use Rattle.block_memory.specs.BlockSizes.{row_seen}
 use Rattle.service_rows.specs.FirstIndex.{first_index}
-use Rattle.service_rows.proofs.IndexLaws.{first_none, index_skipped, is_missing}
+use Rattle.service_rows.proofs.RunLaws.{first_none, index_skipped, is_missing}
 use Rattle.block_services.specs.{declared.spans.Span.{Span}, Gaps.{block_in_way, first_gap, is_gap, is_in_way, overlaps, page_address}}
 use Rattle.block_services.specs.Spans.{held_spans, span_of}
-use Rattle.block_services.proofs.{GapLaws.{gap_at, gap_found, gap_here, gap_missed, not_none}, SpanLists.{IsSpan, Lies, are_spans}}
-use Rattle.block_services.proofs.SpanLists.{has_span, lies}
+use Rattle.block_services.proofs.SpanLists.{gap_at, gap_found, gap_here, gap_missed, not_none, IsSpan, Lies, are_spans, has_span, lies}
 
 -- ---- the search as a function: the first page, from one on, from which n pages lie before the next block or the region's end
 

@@ -1,9 +1,4 @@
-pub mod FrameBytes
-pub mod HandedOver
-pub mod KeptWorld
-pub mod Served
-pub mod Slots
 pub mod SoundEntries
-pub mod SoundStackRow
-pub mod StackAsked
 pub mod Started
+pub mod Served
+pub mod StackAsked

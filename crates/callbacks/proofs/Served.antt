@@ -1,14 +1,25 @@
--- The services on callbacks: they change the callbacks and the registers alone, and the world stays sound.
-use Rattle.std.proofs.Common.{◌≡◌, ◌≢◌, ℕ, length-set, refl, ◌∙◌, Option, None, Some}
-use Rattle.std.specs.Prelude.{nat_eq, slice_set}
+-- The services on callbacks: they change the callbacks and the registers alone, and the world stays sound. First which slots are free.
+use Rattle.std.proofs.Common.{◌≡◌, ◌≤◌, ℕ, Bool, List, length, arith, Option, None, ◌≢◌, length-set, refl, ◌∙◌, Some}
+use Rattle.std.proofs.lemmas.List.{get_or_past}
+use Rattle.std.specs.Prelude.{is_none, nat_eq, slice_set}
+use Rattle.client_world.specs.{declared.limits.TheConstants.{CALLBACKS}, World.{Callback, World}}
 use Rattle.client_world.specs.{declared.registers.Mode.TheVariants.{Protected}, declared.registers.Regs.{Regs}}
-use Rattle.client_world.specs.{declared.services.Carry.TheVariants.{Set}, Services.{es_di}, Soundness.{IsSound, HasSegments}, World.{World}}
+use Rattle.client_world.specs.{declared.services.Carry.TheVariants.{Set}, Services.{es_di}, Soundness.{IsSound, HasSegments}}
+use Rattle.guest_space.specs.VectorLists.{callback_of_slot}
 use Rattle.client_world.proofs.SoundWrites.{IsSound-regs}
 use Rattle.guest_space.proofs.SoundLists.{IsSound-callbacks}
 use Rattle.service_rows.specs.Reasons.{HasOtherAx, Service, first_reason, unsupported}
 use Rattle.service_rows.proofs.{AnswerLaws.{if_has, of_answer, refused_by_family, sound_ax}, WidthLaws.{protected_width}}
 use Rattle.callbacks.specs.{HandOver.{LeftByService}, Services.{addressed_slot, allocate_callback, callback_function, callback_service}}
 use Rattle.callbacks.specs.Services.{ds_si, free_callback, free_slot, with_new_callback}
+
+-- a slot is free
+abbrev pub is_free : List (Option Callback) → ℕ → Bool
+is_free callbacks slot = is_none (callback_of_slot callbacks slot)
+
+pub past_none : (callbacks : List (Option Callback)) (slot : ℕ) → length callbacks ≡ CALLBACKS → CALLBACKS ≤ slot →
+    callback_of_slot callbacks slot ≡ None
+past_none callbacks slot size beyond = get_or_past callbacks slot None (omega arith)
 
 other_parts : (r : Regs) (c d : ℕ) → HasSegments r → HasSegments (record r { ecx = c; edx = d })
 other_parts r c d h = record { es = h.es; cs = h.cs; ss = h.ss; ds = h.ds; fs = h.fs; gs = h.gs }

@@ -187,7 +187,7 @@ fn start(m: &mut Machine, slot: u8, procedure: FarPtr, at: FarPtr)
 }
 
 // The callback of a slot; none from slot 16 on.
-#[tactic(auto, using(crate::proofs::Slots::past_none))]
+#[tactic(auto, using(crate::proofs::Served::past_none))]
 fn held_callback(m: &Machine, slot: u8) -> Option<(FarPtr, FarPtr)>
     ensures { result ≡ callback_of_slot m.now.world.callbacks slot }
 {
@@ -205,7 +205,7 @@ fn held_callback(m: &Machine, slot: u8) -> Option<(FarPtr, FarPtr)>
 /// where the procedure can't be loaded as by a far jump, else `LostStructure` where the structure can't be written; an exit leaves the
 /// machine as it was.
 /// Source: DPMI 0.9, INT 31h function 0303h; the host's stacks, the depth and the exits are own.
-#[tactic(auto, using(crate::proofs::SoundStackRow::held_width), unfolding(crate::specs::Callbacks::enter_callback))]
+#[tactic(auto, using(crate::proofs::StackAsked::held_width), unfolding(crate::specs::Callbacks::enter_callback))]
 pub fn enter(m: &mut Machine, slot: u8) -> Result<(), Exit>
     requires { m.old.world.mode ≡ real }
     ensures { MatchResult result (λ _. enter_callback m.old.world slot ≡ Ok m.new.world)

@@ -31,7 +31,7 @@ fn stack_row(m: &Machine) -> Option<(Desc, Origin)>
 }
 
 /// Sets the descriptor.
-#[tactic(auto, using(crate::proofs::SoundStackRow::sound_row, crate::proofs::SoundStackRow::not_dos), //
+#[tactic(auto, using(crate::proofs::StackAsked::sound_row, crate::proofs::StackAsked::not_dos), //
 unfolding(crate::specs::Callbacks::with_stack_row))]
 pub(crate) fn set_stack_row(m: &mut Machine)
     requires width { m.old.world.width ≢ None }

@@ -83,7 +83,7 @@ pub(crate) fn allocate_callback(m: &mut Machine) -> Result<(), Refusal>
 }
 
 // The slot of the held callback that CX:DX is the address of.
-#[tactic(auto, using(crate::proofs::Slots::past_none))]
+#[tactic(auto, using(crate::proofs::Served::past_none))]
 fn addressed_slot(m: &Machine) -> Option<u8>
     ensures slot { result ≡ (if is_callback_address m.now.world then Some (addressed_slot m.now.world) else None) }
     ensures fits { IfSome result (λ slot. slot < CALLBACKS) }

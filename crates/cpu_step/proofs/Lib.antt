@@ -6,9 +6,5 @@ pub mod FlowSegments
 pub mod Held
 pub mod Joined
 pub mod KnownSteps
-pub mod Outcomes
 pub mod SegmentWords
 pub mod SoundSteps
-pub mod SoundWritten
-pub mod WindowSteps
-pub mod WriteFlags

@@ -1,17 +1,105 @@
--- A step of the client's leads from a sound world to a sound one.
-use Rattle.std.proofs.Common.{◌≡◌, ℕ, refl, Result, Ok, Err}
-use Rattle.client_world.specs.{declared.faults.Event.{Event}, Soundness.{IsSound}, World.{World}}
-use Rattle.client_world.proofs.SoundWrites.{IsSound-regs}
+-- Writes leave a sound world sound, and so do a plan whose segment registers hold words and a step of the client's. A window of code
+-- outlives a step that keeps CS.
+use Rattle.std.proofs.Common.{◌≡◌, ℕ, zero, suc, ◌/◌, ◌%◌, ◌<◌, List, [], ◌∷◌, length, slice_index, refl, sym, subst, arith, nat_eq}
+use Rattle.std.proofs.Common.{if◌then◌else◌, Bool, true, false, Option, None, Some, Result, Ok, Err, ◌∙◌, ap}
+use Rattle.client_world.specs.{declared.faults.Event.{Event}, declared.faults.Event.TheVariants.{Fault as fault}}
+use Rattle.client_world.specs.{declared.faults.Fault.{Fault}, declared.place.Place.{Place}, Access.{access, with_bytes_of}}
+use Rattle.client_world.specs.{Soundness.{IsSound, HasSegments}, World.{World}, declared.registers.Regs.{Regs}}
+use Rattle.client_world.proofs.SoundWrites.{MayWrite, IsSound-with_bytes_of, IsSound-regs, IsSound-vif}
+use Rattle.guest_space.specs.{declared.pending.Write.{Write}, Pending.{byte_count, number_bytes, after_write, first_write_fault}}
+use Rattle.guest_space.specs.{Pending.{after_writes}, Transfer.{places_of_access, after_store}, declared.windows.CodeWindow.{CodeWindow}}
+use Rattle.guest_space.specs.{Machines.{HoldsItsWorld}, Windows.{IsWindow}}
+use Rattle.guest_space.proofs.{Machines.{with_places_world}, OnlyWritten.{write_places}, WindowLaws.{window_of_cs, window_written}}
+use Rattle.host_memory.specs.{View.{MachineView}, Layout.{world_of}}
+use Rattle.insn_plan.specs.{Act.{Pending, Act}, Plan.{after_commit, with_state, plan_result, after_plan, Follows}}
 use Rattle.exec_core.specs.Dispatch.{is_core, core_row}
 use Rattle.exec_flow.specs.Dispatch.{flow_row}
-use Rattle.host_memory.specs.View.{MachineView}
 use Rattle.insn_decode.specs.{declared.decoding.Decoded.{Decoded}, declared.decoding.Decoded.TheVariants.{Whole, More, Invalid}}
 use Rattle.insn_decode.specs.Decode.{decoded}
 use Rattle.insn_forms.specs.declared.insn.Insn.{Insn}
-use Rattle.insn_plan.specs.{Act.{Act, Pending}, Plan.{plan_result, after_plan}}
 use Rattle.cpu_step.specs.Step.{has_big_code, code, view_with_next_eip, client_row, after_instruction, step_of, client_step}
 use Rattle.cpu_step.proofs.{CoreSegments.{core_leaves}, FlowSegments.{flow_leaves}, SegmentWords.{HoldWords, LeavesWords, words_of}}
-use Rattle.cpu_step.proofs.{SegmentWords.{segments_of, leaves_if, planned_words}, SoundWritten.{sound_settled}}
+use Rattle.cpu_step.proofs.SegmentWords.{segments_of, leaves_if, planned_words}
+use Rattle.std.specs.Prelude.{OnOk}
+use Rattle.insn_plan.proofs.WrittenState.{all_state}
+
+-- ---- what is written are bytes
+
+abbrev BytesWithin : List ℕ → Type 0
+BytesWithin bytes = (i : ℕ) → i < length bytes → slice_index bytes i < 0x100
+
+no_bytes : BytesWithin []
+no_bytes i within = absurd (omega arith)
+
+one_more : (byte : ℕ) (bytes : List ℕ) → byte < 0x100 → BytesWithin bytes → BytesWithin (byte ∷ bytes)
+one_more byte bytes small rest zero within = small
+one_more byte bytes small rest (suc i) within = rest i (omega arith)
+
+either_bytes : (c : Bool) (a b : List ℕ) → BytesWithin a → BytesWithin b → BytesWithin (if c then a else b)
+either_bytes true a b one other = one
+either_bytes false a b one other = other
+
+word_is_bytes : (v : ℕ) → v < 0x10000 → BytesWithin (v % 0x100 ∷ v / 0x100 ∷ [])
+word_is_bytes v small = one_more (v % 0x100) (v / 0x100 ∷ []) (omega arith) (one_more (v / 0x100) [] (omega arith) no_bytes)
+
+dword_is_bytes : (v : ℕ) → v < 0x100000000 → BytesWithin (v % 0x100 ∷ v / 0x100 % 0x100 ∷ v / 0x10000 % 0x100 ∷ v / 0x1000000 ∷ [])
+dword_is_bytes v small =
+    one_more (v % 0x100) (v / 0x100 % 0x100 ∷ v / 0x10000 % 0x100 ∷ v / 0x1000000 ∷ []) (omega arith)
+    (one_more (v / 0x100 % 0x100) (v / 0x10000 % 0x100 ∷ v / 0x1000000 ∷ []) (omega arith)
+    (one_more (v / 0x10000 % 0x100) (v / 0x1000000 ∷ []) (omega arith)
+    (one_more (v / 0x1000000) [] (omega arith) no_bytes)))
+
+pub number_is_bytes : (width value : ℕ) → BytesWithin (number_bytes width value)
+number_is_bytes width value =
+    let word = value % 0x10000 in
+    let dword = value % 0x100000000 in
+    let long = dword % 0x100 ∷ dword / 0x100 % 0x100 ∷ dword / 0x10000 % 0x100 ∷ dword / 0x1000000 ∷ [] in
+    either_bytes (nat_eq width 8) (value % 0x100 ∷ [])
+    (if nat_eq width 16 then word % 0x100 ∷ word / 0x100 ∷ [] else long)
+    (one_more (value % 0x100) [] (omega arith) no_bytes)
+    (either_bytes (nat_eq width 16) (word % 0x100 ∷ word / 0x100 ∷ []) long (word_is_bytes word (omega arith))
+    (dword_is_bytes dword (omega arith)))
+
+-- ---- a write: where the access has a fault there are no places
+
+sound_at : (w : World) (r : Result (List Place) Fault) (bytes : List ℕ) → ((places : List Place) → r ≡ Ok places → MayWrite places) →
+    IsSound w →
+    BytesWithin bytes → IsSound (with_bytes_of w (places_of_access r) bytes)
+sound_at w (Ok places) bytes may s small = IsSound-with_bytes_of w places bytes s (may places refl) small
+sound_at w (Err f) bytes may s small = s
+
+sound_written : (v : MachineView) (x : Write) → IsSound v.world → IsSound (after_write v x).world
+unfolding after_write after_store
+sound_written v x s =
+    let n = byte_count x.width in
+    let bytes = number_bytes x.width x.value in
+    let granted = access v.world x.seg x.off n true in
+    subst IsSound (sym (with_places_world v (places_of_access granted) bytes))
+    (sound_at v.world granted bytes (λ places e i within. (write_places v.world x.seg x.off n places e i within).may) s
+    (number_is_bytes x.width x.value))
+
+pub sound_all_written : (v : MachineView) (xs : List Write) → IsSound v.world → IsSound (after_writes v xs).world
+unfolding after_writes
+sound_all_written v [] s = s
+sound_all_written v (x ∷ xs) s = sound_all_written (after_write v x) xs (sound_written v x s)
+
+-- ---- a plan
+
+pub sound_state : (v : MachineView) (p : Pending) → HasSegments p.regs → IsSound v.world → IsSound (with_state p.regs p.vif v).world
+sound_state v p segments s = IsSound-vif (record v.world { regs = p.regs }) p.vif (IsSound-regs v.world p.regs s segments)
+
+sound_unless : (v u : MachineView) (p : Pending) (o : Option Fault) → HasSegments p.regs → IsSound v.world →
+    elim o as (λ _. Result MachineView Event) [ Some f ↦ Err (fault f) | None ↦ Ok (with_state p.regs p.vif (after_writes v p.writes)) ]
+    ≡ Ok u →
+    IsSound u.world
+sound_unless v u p None segments s e =
+    let same : with_state p.regs p.vif (after_writes v p.writes) ≡ u = cc in
+    subst (λ (m : MachineView). IsSound m.world) same (sound_state (after_writes v p.writes) p segments (sound_all_written v p.writes s))
+sound_unless v u p (Some f) segments s e = absurd cc
+
+pub sound_settled : (v u : MachineView) (p : Pending) → HasSegments p.regs → IsSound v.world → after_commit v p ≡ Ok u → IsSound u.world
+unfolding after_commit
+sound_settled v u p segments s e = sound_unless v u p (first_write_fault v.world p.writes) segments s e
 
 row_leaves : (w : World) (insn : Insn) (len : ℕ) → HoldWords w.regs → LeavesWords (client_row w insn len)
 unfolding client_row
@@ -44,3 +132,60 @@ sound_step_of v u Invalid s e = absurd cc
 pub sound_step : (v u : MachineView) → IsSound v.world → client_step v ≡ Ok u → IsSound u.world
 unfolding client_step
 sound_step v u s e = sound_step_of v u (decoded (has_big_code v.world) (code v.world)) s e
+
+-- ---- windows of code
+
+-- with EIP past an instruction the memory holds the world as before
+holds_behind : (v : MachineView) (len : ℕ) → HoldsItsWorld v → HoldsItsWorld (view_with_next_eip len v)
+unfolding world_of
+holds_behind v len held = record {
+  processor = record held.processor { regs = (view_with_next_eip len v).world.regs };
+  machine = record {
+    holds = held.machine.holds;
+    is = ap (λ (w : World). record w { regs = (view_with_next_eip len v).world.regs }) held.machine.is;
+    sound = sound_behind v len held.machine.sound;
+  };
+}
+
+window_unless : (v u : MachineView) (p : Pending) (o : Option Fault) (w : CodeWindow) → HoldsItsWorld v → IsWindow v w →
+    elim o as (λ _. Result MachineView Event) [ Some f ↦ Err (fault f) | None ↦ Ok (with_state p.regs p.vif (after_writes v p.writes)) ]
+    ≡ Ok u →
+    u.world.regs.cs ≡ v.world.regs.cs → IsWindow u w
+window_unless v u p None w held window e same =
+    let is : with_state p.regs p.vif (after_writes v p.writes) ≡ u = cc in
+    let kept = ap (λ (m : MachineView). m.world.regs.cs) is ∙ same ∙ sym (ap (λ (r : Regs). r.cs) (all_state v p.writes).regs) in
+    subst (λ (m : MachineView). IsWindow m w) is
+    (window_of_cs (after_writes v p.writes) p.regs p.vif w kept (window_written v held p.writes w window))
+window_unless v u p (Some f) w held window e same = absurd cc
+
+window_carried : (v u : MachineView) (r : Result Pending Event) (w : CodeWindow) → HoldsItsWorld v → IsWindow v w → after_plan v r ≡ Ok u →
+    u.world.regs.cs ≡ v.world.regs.cs → IsWindow u w
+unfolding after_plan after_commit
+window_carried v u (Ok p) w held window e same = window_unless v u p (first_write_fault v.world p.writes) w held window e same
+window_carried v u (Err event) w held window e same = absurd cc
+
+window_executed : (v u : MachineView) (insn : Insn) (len : ℕ) (w : CodeWindow) → HoldsItsWorld v → IsWindow v w →
+    after_instruction v insn len ≡ Ok u →
+    u.world.regs.cs ≡ v.world.regs.cs → IsWindow u w
+unfolding after_instruction
+window_executed v u insn len w held window e same =
+    let at = view_with_next_eip len v in
+    window_carried at u (plan_result at.world (client_row at.world insn len)) w (holds_behind v len held)
+    (window_of_cs v at.world.regs v.world.vif w refl window) e same
+
+window_step_of : (v u : MachineView) (d : Decoded) (w : CodeWindow) → HoldsItsWorld v → IsWindow v w → step_of v d ≡ Ok u →
+    u.world.regs.cs ≡ v.world.regs.cs → IsWindow u w
+window_step_of v u (Whole insn len) w held window e same = window_executed v u insn len w held window e same
+window_step_of v u More w held window e same = absurd cc
+window_step_of v u Invalid w held window e same = absurd cc
+
+window_step : (v u : MachineView) (w : CodeWindow) → HoldsItsWorld v → IsWindow v w → client_step v ≡ Ok u →
+    u.world.regs.cs ≡ v.world.regs.cs →
+    IsWindow u w
+unfolding client_step
+window_step v u w held window e same = window_step_of v u (decoded (has_big_code v.world) (code v.world)) w held window e same
+
+pub window_after : (v u : MachineView) (w : CodeWindow) (r : Result (Unit {0}) Event) → HoldsItsWorld v → IsWindow v w →
+    Follows v u r (client_step v) → OnOk r (u.world.regs.cs ≡ w.cs → IsWindow u w)
+window_after v u w (Ok _) held window step = λ same. window_step v u w held window step (same ∙ window.cs)
+window_after v u w (Err e) held window step = tt

@@ -1,14 +1,25 @@
--- The eight bytes of a packed descriptor are bytes, and what they are unpacked to fits.
-use Rattle.std.proofs.Common.{◌≡◌, ◌≤◌, ◌<◌, ◌%◌, ◌/◌, ◌^◌, ℕ, inl, inr, List, [], ◌∷◌, subst, arith, None, Some}
-use Rattle.std.proofs.lemmas.Bool.{cases_Bool, cond-true, cond-false}
-use Rattle.client_world.specs.{declared.descriptors.Desc.{Desc}, declared.descriptors.Kind.{Kind}}
-use Rattle.client_world.specs.{declared.descriptors.Kind.TheVariants.{Data, Code}, Descriptor.{FitsDescriptor, access_byte, flags_byte}}
-use Rattle.client_world.specs.Descriptor.{kind_bits, packed}
+-- The eight bytes of a packed descriptor are bytes, and what they are unpacked to fits. A limit in bytes is the last byte that is allowed.
+use Rattle.std.proofs.Common.{◌≡◌, ◌%◌, ℕ, Bool, true, false, ◌&&◌, not, refl, arith, nat_lt, nat_eq, ◌≤◌, ◌<◌, ◌/◌, ◌^◌, inl, inr, List}
+use Rattle.std.proofs.{Common.{[], ◌∷◌, subst, None, Some}, lemmas.Bool.{eqb-true, not-false, cases_Bool, cond-true, cond-false}}
+use Rattle.client_world.specs.{declared.descriptors.Desc.{Desc}, Descriptor.{byte_limit, FitsDescriptor, access_byte, flags_byte}}
+use Rattle.client_world.specs.{Descriptor.{kind_bits, packed}, declared.descriptors.Kind.{Kind}}
+use Rattle.client_world.specs.declared.descriptors.Kind.TheVariants.{Data, Code}
+use Rattle.desc_services.specs.Rows.{is_no_limit, desc_with_limit}
 use Rattle.desc_table.specs.Unpacked.{described, is_packed, unpacked}
 use Rattle.desc_table.proofs.PackedLaws.{fits-described}
 use Rattle.guest_ram.specs.Bytes.{AreBytes}
 use Rattle.client_world.proofs.FlagBits.{weight_fits}
 use Rattle.guest_ram.proofs.ByteLists.{more_bytes, no_bytes}
+
+by_size : (d : Desc) (limit : ℕ) (long : Bool) → nat_lt 0xFFFFF limit ≡ long → (long && not (nat_eq (limit % 0x1000) 0xFFF)) ≡ false →
+    byte_limit (desc_with_limit d limit) ≡ limit
+by_size d limit true e fine =
+    let last : limit % 0x1000 ≡ 0xFFF = eqb-true (limit % 0x1000) 0xFFF (not-false (nat_eq (limit % 0x1000) 0xFFF) fine) in
+    rw e (omega arith)
+by_size d limit false e fine = rw e refl
+
+pub limit_kept : (d : Desc) (limit : ℕ) → is_no_limit limit ≡ false → byte_limit (desc_with_limit d limit) ≡ limit
+limit_kept d limit e = by_size d limit (nat_lt 0xFFFFF limit) refl e
 
 kind_fits : (k : Kind) → kind_bits k ≤ 10
 kind_fits (Data writable down) =

@@ -1,8 +1,4 @@
-pub mod EachService
+pub mod ServiceLaws
 pub mod FarBytes
-pub mod KeptServices
-pub mod LimitLaws
 pub mod PutLaws
-pub mod SegmentLaws
-pub mod SoundServices
 pub mod WithRun

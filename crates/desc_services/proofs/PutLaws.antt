@@ -1,16 +1,17 @@
--- Where a row may be put.
+-- Where a row may be put, as those of the descriptors of real segments may; and the law of the search for one.
 use Rattle.std.proofs.Common.{◌≡◌, ◌≢◌, ◌≤◌, ℕ, ◌<◌, Bool, true, false, inl, inr, List, refl, ◌∙◌, sym, subst, ap, arith, Option, None}
-use Rattle.std.proofs.{Common.{Some}, lemmas.Bool.{cases_lt, true≢false}, lemmas.List.{get_or_past}}
+use Rattle.std.proofs.{Common.{Some}, lemmas.Bool.{cases_lt, true≢false, eq-eqb, eqb-true, false_from_ne_true}, lemmas.List.{get_or_past}}
 use Rattle.std.specs.Option.{is_some}
 use Rattle.client_world.specs.{declared.descriptors.Desc.{Desc}, declared.descriptors.Origin.{Origin}}
 use Rattle.client_world.specs.declared.descriptors.Origin.TheVariants.{Own, Low, Entry, Psp, Segment, Dos, Host}
 use Rattle.client_world.specs.{declared.registers.Width.{Width}, declared.host_frames.TheConstants.{DESCRIPTORS, FIRST_FREE_DESCRIPTOR}}
-use Rattle.client_world.specs.{Descriptor.{FitsDescriptor}, FreeRuns.{IsFreeRunOf}, Selector.{Row, FitsRow, row_at_index, row_of_selector}}
-use Rattle.client_world.specs.{Selector.{index_of, is_local}, Services.{is_changeable_origin}, Soundness.{IsSound, SoundWidth}}
-use Rattle.client_world.specs.{Soundness.{IsOfDosBlock, IsPlainOrigin, IsPlainRow, IsClientsIndex}, World.{World}}
-use Rattle.client_world.proofs.SoundRows.{IsSound-row, high_is_clients, none_not_dos, plain_not_dos}
-use Rattle.desc_services.specs.{MayPut.{MayPut}, Rows.{is_freeable_origin}}
+use Rattle.client_world.specs.{Descriptor.{FitsDescriptor}, FreeRuns.{IsFreeRunOf, IsFirstFreeRunOf}, Selector.{Row, FitsRow, row_at_index}}
+use Rattle.client_world.specs.{Selector.{row_of_selector, index_of, is_local}, Services.{is_changeable_origin}, Soundness.{IsSound}}
+use Rattle.client_world.specs.{Soundness.{SoundWidth, IsOfDosBlock, IsPlainOrigin, IsPlainRow, IsClientsIndex, HasOrigin}, World.{World}}
+use Rattle.client_world.proofs.SoundRows.{IsSound-row, high_is_clients, none_not_dos, plain_not_dos, clients_suits, row_keeps_sound}
+use Rattle.desc_services.specs.{MayPut.{MayPut}, Rows.{is_freeable_origin, is_segment_origin, is_segment_row, segment_index}}
 use Rattle.desc_table.proofs.RunLaws.{none_of}
+use Rattle.service_rows.proofs.RunLaws.{first_none, is_first}
 
 none_some : (r : Desc × Origin) → None ≢ Some r
 none_some r e = cc
@@ -141,3 +142,78 @@ pub may_make_at : (w : World) (first n : ℕ) (d : Desc) → IsSound w → w.wid
 may_make_at w first n d s width from some run fits =
     let within = run.within in
     may_make w first (Some (d, Own)) s width (run.free first (omega arith) (omega arith)) (omega arith) (high_is_clients first from) fits tt
+
+-- the search says of each row that it isn't the segment's
+segment_test : (row : Row) (segment : ℕ) → HasOrigin row (Segment segment) → is_segment_row row segment ≡ true
+segment_test None segment e = absurd e
+segment_test (Some row) segment e = ap (λ (o : Origin). is_segment_origin o segment) e ∙ eq-eqb segment segment refl
+
+some_of : (row : Row) (origin : Origin) → HasOrigin row origin → (r : Desc × Origin) × (row ≡ Some r)
+some_of None origin has = absurd has
+some_of (Some r) origin has = (r, refl)
+
+has_within : (w : World) (index segment : ℕ) → IsSound w → HasOrigin (row_at_index w.descriptors index) (Segment segment) →
+    index < DESCRIPTORS
+has_within w index segment s has =
+    let there = some_of (row_at_index w.descriptors index) (Segment segment) has in
+    row_within w index there.0 s there.1
+
+pub no_segment : (w : World) (segment : ℕ) → IsSound w → segment_index w.descriptors segment ≡ None →
+    (other : ℕ) → ¬ HasOrigin (row_at_index w.descriptors other) (Segment segment)
+unfolding segment_index
+no_segment w segment s e other has =
+    true≢false (sym (segment_test (row_at_index w.descriptors other) segment has)
+    ∙ first_none (λ (index : ℕ). is_segment_row (row_at_index w.descriptors index) segment) 0 DESCRIPTORS e other (omega arith)
+    (has_within w other segment s has))
+
+pub may_make_segment_at : (w : World) (first : ℕ) (d : Desc) (segment : ℕ) → IsSound w → w.width ≢ None →
+    segment_index w.descriptors segment ≡ None →
+    FIRST_FREE_DESCRIPTOR ≤ first → IsFreeRunOf w.descriptors first 1 → FitsDescriptor d → MayPut w first (Some (d, Segment segment))
+may_make_segment_at w first d segment s width none from run fits =
+    let in_table = run.within in
+    let small : first < DESCRIPTORS = omega arith in
+    let old = none_not_dos (row_at_index w.descriptors first) (run.free first (omega arith) (omega arith)) in
+    record {
+      within = small;
+      width = width;
+      old_origin = old;
+      new_origin = λ dos. dos;
+      sound = row_keeps_sound w first (Some (d, Segment segment)) s width
+          (record { within = small; fits = fits; old = old; new = λ dos. dos; alone = alone })
+          (clients_suits first (Some (d, Segment segment)) (high_is_clients first from) (λ e. cc));
+    }
+  where
+    alone : (named other : ℕ) → Segment segment ≡ Segment named → other ≢ first →
+        ¬ HasOrigin (row_at_index w.descriptors other) (Segment named)
+    alone named other e ne has = no_segment w segment s none other (subst (HasOrigin (row_at_index w.descriptors other)) (sym e) has)
+
+pub may_make_segment : (w : World) (first : ℕ) (d : Desc) (segment : ℕ) → IsSound w → w.width ≢ None →
+    segment_index w.descriptors segment ≡ None →
+    IsFirstFreeRunOf w.descriptors first 1 → FitsDescriptor d → MayPut w first (Some (d, Segment segment))
+may_make_segment w first d segment s width none run fits = may_make_segment_at w first d segment s width none run.from run.run fits
+
+-- the row that is found is that of the segment
+of_test : (row : Row) (segment : ℕ) → is_segment_row row segment ≡ true → HasOrigin row (Segment segment)
+of_test None segment e = absurd (true≢false (sym e))
+of_test (Some row) segment e = of_origin row.1 segment e
+  where
+    of_origin : (o : Origin) (segment : ℕ) → is_segment_origin o segment ≡ true → o ≡ Segment segment
+    of_origin Own segment e = absurd (true≢false (sym e))
+    of_origin Low segment e = absurd (true≢false (sym e))
+    of_origin Entry segment e = absurd (true≢false (sym e))
+    of_origin Psp segment e = absurd (true≢false (sym e))
+    of_origin (Segment own) segment e = ap (λ (s : ℕ). Segment s) (eqb-true own segment e)
+    of_origin (Dos own) segment e = absurd (true≢false (sym e))
+    of_origin Host segment e = absurd (true≢false (sym e))
+
+pub segment_found : (w : World) (index segment : ℕ) → IsSound w → HasOrigin (row_at_index w.descriptors index) (Segment segment) →
+    segment_index w.descriptors segment ≡ Some index
+unfolding segment_index
+segment_found w index segment s has =
+    is_first (λ (k : ℕ). is_segment_row (row_at_index w.descriptors k) segment) 0 DESCRIPTORS index (omega arith)
+    (has_within w index segment s has)
+    (segment_test (row_at_index w.descriptors index) segment has)
+    (λ below from less. false_from_ne_true (is_segment_row (row_at_index w.descriptors below) segment)
+    (λ t.
+    (let same : below ≡ index = s.descriptors.segments below index segment (of_test (row_at_index w.descriptors below) segment t) has in
+    omega arith)))

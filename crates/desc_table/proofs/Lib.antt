@@ -1,4 +1,3 @@
 pub mod PackedLaws
 pub mod RowLaws
 pub mod RunLaws
-pub mod RowWords

@@ -1,7 +1,8 @@
 -- Rows of the descriptor table, read back from their bytes.
-use Rattle.std.proofs.Common.{arith, ◌≡◌, ◌≢◌, ◌≤◌, ◌<◌, ◌+◌, ◌*◌, ◌/◌, ◌%◌, ◌^◌, ◌⊎◌, inl, inr, ℕ, List, [], ◌∷◌, ◌++◌, length}
-use Rattle.std.proofs.Common.{slice_index, get_or, set, Some, None, refl, ap, ◌∙◌, sym, zero-add, add-zero, add_assoc}
-use Rattle.std.proofs.{lemmas.Bool.{cases_lt}, lemmas.List.{get_or_append_left}}
+use Rattle.std.proofs.Common.{◌≡◌, ℕ, ◌+◌, ◌*◌, List, drop, slice_index, arith, ◌≢◌, ◌≤◌, ◌<◌, ◌/◌, ◌%◌, ◌^◌, ◌⊎◌, inl, inr, [], ◌∷◌, ◌++◌}
+use Rattle.std.proofs.Common.{length, get_or, set, Some, None, refl, ap, ◌∙◌, sym, zero-add, add-zero, add_assoc}
+use Rattle.std.proofs.{lemmas.List.{get_or-drop, get_or_append_left}, lemmas.Bool.{cases_lt}}
+use Rattle.byteorder.specs.Endian.{little_number}
 use Rattle.client_world.specs.{declared.descriptors.Desc.{Desc}, declared.descriptors.Origin.{Origin}}
 use Rattle.client_world.specs.{declared.descriptors.Origin.TheVariants.{Own, Low, Entry, Psp, Segment, Dos, Host}, Descriptor.{packed}}
 use Rattle.client_world.specs.{declared.host_frames.TheConstants.{DESCRIPTORS, DESCRIPTOR_ROW_SIZE}, Selector.{Row, FitsRow}}
@@ -11,6 +12,10 @@ use Rattle.guest_ram.proofs.ListedLaws.{same_listed, listed-set}
 use Rattle.desc_table.specs.{Unpacked.{unpacked, described}, Rows.{row_at, row_bytes, rows_from, row_address, origin_of, origin_code}}
 use Rattle.desc_table.specs.Rows.{origin_segment}
 use Rattle.desc_table.proofs.PackedLaws.{unpacked-packed}
+
+-- the number in the two bytes from the third on
+pub third_word : (bytes : List ℕ) → little_number 2 (drop 2 bytes) ≡ slice_index bytes 2 + 0x100 * slice_index bytes 3
+third_word bytes = omega (arith, get_or-drop 2 bytes 0 0, get_or-drop 2 bytes 1 0)
 
 -- eight bytes that are the same are the same descriptor
 pub same_unpacked : (b c : List ℕ) (p q : ℕ) → ((i : ℕ) → i < 8 → slice_index b (p + i) ≡ slice_index c (q + i)) →

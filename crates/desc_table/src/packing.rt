@@ -98,7 +98,7 @@ pub fn kind_of(byte: u8) -> Kind
 }
 
 // The fields that eight bytes hold.
-#[tactic(auto, using(crate::proofs::RowWords::third_word), unfolding(crate::specs::Unpacked::described))]
+#[tactic(auto, using(crate::proofs::RowLaws::third_word), unfolding(crate::specs::Unpacked::described))]
 fn describe(b: &[u8; 8]) -> Desc
     ensures { result ≡ described b.now 0 }
 {

@@ -8,14 +8,14 @@ use Rattle.client_world.specs.{declared.host_frames.TheConstants.{DESCRIPTORS}, 
 use Rattle.client_world.specs.{Soundness.{HasRun, IsRunOf, descriptors_for}, World.{World}}
 use Rattle.guest_space.specs.{Arena.{with_entries}, DosRuns.{CanPutRun, with_entries_and_run}}
 use Rattle.service_rows.specs.FreeRun.{first_free_run}
-use Rattle.service_rows.proofs.{IndexLaws.{is_first}, RunLaws.{free_run_of, run_of_test}}
+use Rattle.service_rows.proofs.RunLaws.{is_first, free_run_of, run_of_test}
 use Rattle.dos_blocks.specs.Blocks.{CanAllocate, CanResize, missing_entry, block_state, descriptor_of_block, entry_of_place}
 use Rattle.dos_blocks.specs.Blocks.{first_descriptor, first_fit, free_before, free_entries_after, has_room_to_grow, index_or_zero}
 use Rattle.dos_blocks.specs.Blocks.{is_of_segment, joined_entry, new_descriptor, place_of_block, greatest_size, run_of_block}
 use Rattle.dos_blocks.specs.{Blocks.{segment_of_row, split, with_block}, Puts.{CanPut, CanPutBlock}, Services.{segment_of_selector}}
-use Rattle.dos_blocks.proofs.{CallLaws.{can_free, can_give, can_resize}, Founds.{HasBlock, HasFit, found_block, found_fit, number}}
-use Rattle.dos_blocks.proofs.{RunPuts.{can_free_run, can_give_run, can_resize_run, has_within}, SelectorLaws.{HasBlockRun}}
-use Rattle.dos_blocks.proofs.SelectorLaws.{block_of_segment, row_is, row_tells}
+use Rattle.dos_blocks.proofs.RunPuts.{can_free, can_give, can_resize, can_free_run, can_give_run, can_resize_run, has_within}
+use Rattle.dos_blocks.proofs.{Searches.{HasBlock, HasFit, found_block, found_fit, number}, SelectorLaws.{HasBlockRun, block_of_segment}}
+use Rattle.dos_blocks.proofs.SelectorLaws.{row_is, row_tells}
 
 -- ---- the first descriptor of a block
 

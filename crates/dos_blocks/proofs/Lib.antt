@@ -1,14 +1,8 @@
-pub mod CallLaws
-pub mod Founds
-pub mod NeighbourLaws
+pub mod RunPuts
 pub mod Searches
 pub mod Splicing
-pub mod Splits
-pub mod SoundBlocks
+pub mod ServiceLaws
 pub mod SelectorLaws
-pub mod RunPuts
 pub mod BlockRuns
 pub mod OneStep
-pub mod ServiceLaws
-pub mod RefusedServices
 pub mod NamedLaws

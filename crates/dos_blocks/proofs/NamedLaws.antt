@@ -18,7 +18,7 @@ use Rattle.dos_blocks.specs.Blocks.{Done, missing_entry, entry_of_place, first_f
 use Rattle.dos_blocks.specs.{Blocks.{segment_of_row, split, starts_at}, Named.{HasNewBlock, LosesDescriptors, NamesBlock}}
 use Rattle.dos_blocks.specs.Services.{allocate_dos_block, first_of_segment, free_dos_block, place_of_segment, place_of_selector}
 use Rattle.dos_blocks.specs.Services.{segment_of_selector}
-use Rattle.dos_blocks.proofs.{Founds.{HasFit, found_fit, number}, NeighbourLaws.{entry_within}, OneStep.{freed_is, given_at, given_is}}
+use Rattle.dos_blocks.proofs.{Searches.{HasFit, found_fit, number}, Splicing.{entry_within}, OneStep.{freed_is, given_at, given_is}}
 use Rattle.dos_blocks.proofs.{RunPuts.{has_within, later_after, no_descriptor}, SelectorLaws.{row_is, row_tells, selector_block}}
 
 -- ---- the place of a block

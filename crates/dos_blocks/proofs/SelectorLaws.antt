@@ -11,7 +11,7 @@ use Rattle.client_world.specs.{Soundness.{descriptors_for}, World.{World}}
 use Rattle.service_rows.specs.FreeRun.{are_free, is_free_run}
 use Rattle.dos_blocks.specs.Blocks.{missing_entry, entry_of_place, is_of_segment, segment_of_origin, segment_of_row}
 use Rattle.dos_blocks.specs.Services.{first_of_segment, place_of_segment, place_of_selector, segment_of_selector}
-use Rattle.dos_blocks.proofs.Founds.{HasBlock, found_block, number}
+use Rattle.dos_blocks.proofs.Searches.{HasBlock, found_block, number}
 
 -- ---- the origin of a row
 

@@ -27,7 +27,7 @@ pub fn every_dos_service_keeps_the_rest()
 {}
 
 /// A service that is refused changes AX and BX alone. Source: own.
-#[tactic(auto, using(crate::proofs::RefusedServices::refused_service))]
+#[tactic(auto, using(crate::proofs::OneStep::refused_service))]
 pub fn every_refused_dos_service_changes_ax_and_bx_alone()
     ensures { (ax : ℕ) (w : World) → (dos_service ax w).carry ≡ set → HasOtherAxAndBx w (dos_service ax w).world }
 {}

@@ -8,7 +8,7 @@ use client_world::{DosEntry, DosState};
 use guest_space::Machine;
 
 // The entry at a place, or one that isn't free where there is none.
-#[tactic(auto, using(crate::proofs::NeighbourLaws::outside))]
+#[tactic(auto, using(crate::proofs::Splicing::outside))]
 fn entry_of_place(m: &Machine, place: u16) -> DosEntry
     ensures entry { result ≡ entry_of_place m.now.world.arena place }
     ensures small { result.paras ≤ ARENA_END }

@@ -1,11 +1,13 @@
--- Bytes added to a console, one after the other.
+-- Bytes added to a console, one after the other, and what a call that prints comes to, by whether the console had room for all.
 use Rattle.std.proofs.Common.{◌≡◌, ℕ, zero, suc, ◌+◌, ◌-◌, ◌<◌, ◌≤◌, Bool, true, false, List, [], ◌∷◌, ◌++◌, length, take, length-append}
-use Rattle.std.proofs.{Common.{append_assoc, append-nil, refl, ap, subst, ◌∙◌, sym, arith}, lemmas.Bool.{le-leb, lt-leb, leb-true}}
-use Rattle.std.proofs.lemmas.List.{take_all}
+use Rattle.std.proofs.{Common.{append_assoc, append-nil, refl, ap, subst, ◌∙◌, sym, arith, drop, Some}, lemmas.Bool.{le-leb, lt-leb}}
+use Rattle.std.proofs.{lemmas.Bool.{leb-true}, lemmas.List.{take_all}}
 use Rattle.std.specs.Prelude.{nat_le, nat_lt, if◌then◌else◌}
 use borrow.Author.Tests.{ltb-true, ltb-false}
-use Rattle.client_world.specs.declared.limits.TheConstants.{CONSOLE_ROOM}
-use Rattle.dos_calls.specs.{Answering.{console_with}, Calls.{has_room}}
+use Rattle.client_world.specs.{declared.limits.TheConstants.{CONSOLE_ROOM}, declared.outcome.Exit.TheVariants.{ConsoleFull}}
+use Rattle.client_world.specs.{declared.services.DosDone.TheVariants.{Served, Ended}, World.{World}}
+use Rattle.dos_calls.specs.{Answering.{console_with}, Calls.{has_room, CallState, CallResult, print_result, with_line, line_of}}
+use Rattle.dos_calls.specs.Calls.{line_result}
 
 -- what is left to add leads to the same end as all of it at the start
 pub record Adds (console bytes now rest : List ℕ) : Type 0 where
@@ -87,3 +89,32 @@ all_added console bytes now left is adds few =
 
     none_more : (xs : List ℕ) → console_with xs [] ≡ xs
     none_more xs = added_is xs [] ∙ taken xs (CONSOLE_ROOM - length xs)
+
+abbrev pub printing : CallState → List ℕ → World → List ℕ → Bool → CallResult
+printing s bytes world keys all = record {
+  done = if all then Served else Ended ConsoleFull;
+  world = if all then world else s.world;
+  keys = keys;
+  console = console_with s.console bytes;
+}
+
+printed_is : (s : CallState) (bytes : List ℕ) (world : World) (keys : List ℕ) →
+    print_result s bytes world keys ≡ printing s bytes world keys (has_room s.console bytes)
+unfolding print_result
+printed_is s bytes world keys = grind (arith, Rattle.std.proofs.lemmas.Bool.Decides.nat_tests)
+
+-- a line that was taken, of which a first part went to the console
+pub line_goes : (s : CallState) (room count : ℕ) (line keys console : List ℕ) (all : Bool) →
+    line_of s.keys ≡ Some (take count s.keys, drop (count + 1) s.keys) → line ≡ take (room - 1) (take count s.keys) →
+    all ≡ has_room s.console (line ++ 0x0D ∷ []) → console ≡ console_with s.console (line ++ 0x0D ∷ []) → keys ≡ drop (count + 1) s.keys →
+    line_result s room (line_of s.keys) ≡ record {
+      done = if all then Served else Ended ConsoleFull;
+      world = if all then with_line s.world line else s.world;
+      keys = keys;
+      console = console;
+    }
+line_goes s room count line keys console all taken short room_is console_is keys_is =
+    ap (line_result s room) taken
+    ∙ ap (λ (xs : List ℕ). print_result s (xs ++ 0x0D ∷ []) (with_line s.world xs) (drop (count + 1) s.keys)) (sym short)
+    ∙ printed_is s (line ++ 0x0D ∷ []) (with_line s.world line) (drop (count + 1) s.keys)
+    ∙ cc

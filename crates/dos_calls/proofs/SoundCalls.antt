@@ -1,27 +1,80 @@
--- A call leads from a sound world to a sound one. Where the keys are bytes, those that are left are bytes, and so is what it writes.
-use Rattle.std.proofs.Common.{ℕ, ◌+◌, ◌-◌, ◌*◌, ◌<◌, ◌||◌, List, [], ◌∷◌, ◌++◌, length, take, drop, arith, nat_eq, nat_le, if◌then◌else◌}
-use Rattle.std.proofs.Common.{Bool, true, false, Option, None, Some, Result, Ok, Err}
-use Rattle.client_world.specs.{declared.dos_memory.DosRefusal.{DosRefusal}, declared.dos_memory.DosRefusal.TheVariants.{NoMemory}}
-use Rattle.client_world.specs.{declared.dos_memory.DosRefusal.TheVariants.{WrongBlock}, declared.limits.TheConstants.{CONSOLE_ROOM}}
-use Rattle.client_world.specs.{declared.memory_map.TheConstants.{PSP_SEGMENT, SEGMENT_SIZE}, declared.outcome.Exit.{Exit}}
-use Rattle.client_world.specs.{declared.outcome.Exit.TheVariants.{NoKeys}, Access.{real_address}, Registers.{low_byte, high_byte, low_half}}
-use Rattle.client_world.specs.{Soundness.{IsSound}, World.{World}}
-use Rattle.client_world.proofs.SoundWrites.{IsSound-dos, sound_general}
+-- A call leads from a sound world to a sound one: bytes of the megabyte, a flag and registers may be put. Where the keys are bytes, those
+-- that are left are bytes, and so is what it writes.
+use Rattle.std.proofs.Common.{ℕ, ◌+◌, ◌<◌, List, [], ◌∷◌, arith, Bool, true, false, slice_index, ◌-◌, ◌*◌, ◌||◌, ◌++◌, length, take, drop}
+use Rattle.std.proofs.Common.{nat_eq, nat_le, if◌then◌else◌, Option, None, Some, Result, Ok, Err}
+use Rattle.client_world.specs.{declared.registers.TheConstants.{CARRY_BIT, ZERO_BIT}, Access.{real_address}, Soundness.{IsSound}}
+use Rattle.client_world.specs.{Soundness.{SoundMegabyte}, World.{World}, declared.dos_memory.DosRefusal.{DosRefusal}}
+use Rattle.client_world.specs.declared.dos_memory.DosRefusal.TheVariants.{NoMemory, WrongBlock}
+use Rattle.client_world.specs.{declared.limits.TheConstants.{CONSOLE_ROOM}, declared.memory_map.TheConstants.{PSP_SEGMENT, SEGMENT_SIZE}}
+use Rattle.client_world.specs.{declared.outcome.Exit.{Exit}, declared.outcome.Exit.TheVariants.{NoKeys}, Registers.{low_byte, high_byte}}
+use Rattle.client_world.specs.Registers.{low_half}
+use Rattle.client_world.proofs.SoundWrites.{IsSound-dos, IsSound-regs, sound_general}
+use Rattle.guest_space.specs.Dos.{with_dos_byte}
+use Rattle.service_rows.specs.Rows.{with_ax, with_bx}
+use Rattle.dos_calls.specs.Calls.{with_al, with_error, CallResult, CallState, served_call, ended_call, print_result, without_carry}
+use Rattle.dos_calls.specs.Calls.{poll_key, with_line, line_result, line_of, keys_result, bad_handle, with_memory_error}
+use Rattle.dos_calls.specs.{Calls.{after_allocate_call, after_block_call, bad_function, dos_call}, DosBytes.{with_bit, with_dos_bytes_at}}
+use Rattle.dos_calls.specs.{DosBytes.{with_stacked, byte_at}, Multiplex.{with_entry, multiplex_call}}
+use Rattle.guest_ram.specs.Bytes.{AreBytes, word_of}
+use Rattle.dos_calls.proofs.ByteLaws.{bytes_behind, bytes_take, bytes_drop, length-taken, bytes_read, bytes_text, LineOfBytes, bytes_line}
+use Rattle.guest_space.proofs.SoundLists.{sound_byte}
+use Rattle.service_rows.proofs.AnswerLaws.{sound_ax}
 use Rattle.dos_blocks.specs.{declared.services.TheConstants.{NO_MEMORY, WRONG_BLOCK}, Blocks.{allocation_result, free_result}}
 use Rattle.dos_blocks.specs.Blocks.{resize_result}
-use Rattle.service_rows.specs.Rows.{with_ax, with_bx}
-use Rattle.dos_blocks.proofs.SoundBlocks.{sound_allocated, sound_freed, sound_resized}
-use Rattle.guest_ram.specs.Bytes.{AreBytes, word_of}
+use Rattle.dos_blocks.proofs.ServiceLaws.{sound_allocated, sound_freed, sound_resized}
 use Rattle.host_memory.specs.Vectors.{word_bytes}
-use Rattle.dos_calls.specs.Calls.{CallResult, CallState, served_call, ended_call, print_result, with_al, with_error, without_carry}
-use Rattle.dos_calls.specs.Calls.{poll_key, with_line, line_result, line_of, keys_result, bad_handle, with_memory_error}
-use Rattle.dos_calls.specs.{Calls.{after_allocate_call, after_block_call, bad_function, dos_call}, DosBytes.{byte_at, with_dos_bytes_at}}
-use Rattle.dos_calls.specs.Multiplex.{with_entry, multiplex_call}
-use Rattle.dos_calls.proofs.ByteLists.{bytes_behind, bytes_take, bytes_drop, length-taken, bytes_read, bytes_text, LineOfBytes, bytes_line}
-use Rattle.dos_calls.proofs.SoundWorlds.{sound_bytes, sound_carry, sound_zero, sound_es, sound_al, sound_bx, sound_error}
 use Rattle.guest_ram.proofs.ByteLists.{bytes_word, join_bytes, more_bytes, no_bytes}
-use Rattle.service_rows.proofs.AnswerLaws.{sound_ax}
 use Rattle.dos_calls.specs.Calls as calls
+
+-- ---- bytes
+
+pub sound_bytes : (dos : List ℕ) (segment offset : ℕ) (xs : List ℕ) → SoundMegabyte dos → AreBytes xs →
+    SoundMegabyte (with_dos_bytes_at dos segment offset xs)
+unfolding with_dos_bytes_at
+sound_bytes dos segment offset [] s bytes = s
+sound_bytes dos segment offset (x ∷ xs) s bytes =
+    sound_bytes (with_dos_byte dos (real_address segment offset) x) segment (offset + 1) xs
+    (sound_byte dos (real_address segment offset) x s (bytes 0)) (bytes_behind x xs bytes)
+
+-- ---- a flag
+
+carry_fits : (on : Bool) (byte : ℕ) → byte < 0x100 → with_bit byte CARRY_BIT on < 0x100
+carry_fits true byte small = omega arith
+carry_fits false byte small = omega arith
+
+zero_fits : (on : Bool) (byte : ℕ) → byte < 0x100 → with_bit byte ZERO_BIT on < 0x100
+zero_fits true byte small = omega arith
+zero_fits false byte small = omega arith
+
+sound_stacked : (w : World) (bit : ℕ) (on : Bool) → ((byte : ℕ) → byte < 0x100 → with_bit byte bit on < 0x100) → IsSound w →
+    IsSound (with_stacked bit on w)
+sound_stacked w bit on fits s =
+    let at = real_address w.regs.ss (w.regs.esp + 4) in
+    IsSound-dos w (with_dos_byte w.dos at (with_bit (slice_index w.dos at) bit on)) s
+    (sound_byte w.dos at (with_bit (slice_index w.dos at) bit on) s.megabyte (fits (slice_index w.dos at) (s.megabyte.bytes at)))
+
+pub sound_carry : (w : World) (on : Bool) → IsSound w → IsSound (with_stacked CARRY_BIT on w)
+sound_carry w on s = sound_stacked w CARRY_BIT on (carry_fits on) s
+
+pub sound_zero : (w : World) (on : Bool) → IsSound w → IsSound (with_stacked ZERO_BIT on w)
+sound_zero w on s = sound_stacked w ZERO_BIT on (zero_fits on) s
+
+-- ---- registers
+
+-- ES with a word
+pub sound_es : (w : World) (sel : ℕ) → IsSound w → sel < 0x10000 → IsSound (record w { regs = record w.regs { es = sel } })
+sound_es w sel s small = let segments = s.segments in IsSound-regs w (record w.regs { es = sel }) s assumption
+
+pub sound_al : (w : World) (v : ℕ) → IsSound w → IsSound (with_al v w)
+sound_al w v s = sound_general w _ w.regs.ebx w.regs.ecx w.regs.edx w.regs.esi w.regs.edi s
+
+pub sound_bx : (w : World) (v : ℕ) → IsSound w → IsSound (with_bx v w)
+sound_bx w v s = sound_general w w.regs.eax _ w.regs.ecx w.regs.edx w.regs.esi w.regs.edi s
+
+pub sound_error : (w : World) (code : ℕ) → IsSound w → IsSound (with_error code w)
+sound_error w code s = sound_carry (with_ax code w) true (sound_ax w code s)
+
+-- ---- the calls
 
 -- what a call sees, and what it comes to, where the console was this
 

@@ -8,7 +8,7 @@ use Rattle.dpmi_io.specs.{Causes.{Rose}, Content.{Files, Shown, Gains}}
 use Rattle.dpmi_cli.specs.{declared.prepare.Prepared.{Prepared}, declared.prepare.Reason.TheVariants.{Words}, Answer.{Verdict, Refuses}}
 use Rattle.dpmi_cli.specs.{Answer.{Starts, StartsMade, StartsPair, verdict, verdict_of, answer, answer_to}, Causes.{NamedFailed, IsAbsent}}
 use Rattle.dpmi_cli.specs.{Causes.{HasVerdict, Answers}, Load.{verdict_in}, Runs.{host_at_end}, Words.{file_names, names_in}}
-use Rattle.dpmi_cli.proofs.{Files.{no_verdict}, SmallStatus.{pair_status-small, run_status-small}}
+use Rattle.dpmi_cli.proofs.{Files.{no_verdict}, RunAnswers.{pair_status-small, run_status-small}}
 
 -- where the output didn't fail, the answer is whole
 pub gives_whole : (v : Verdict) (before now : Shown) (m n result : ℕ) → Answers v before now m n result →

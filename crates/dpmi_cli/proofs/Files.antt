@@ -1,19 +1,20 @@
--- The files that are read, and the verdict on them.
+-- The files that are read, those of a pair too, and the verdict on them.
 use Rattle.std.proofs.{Common.{arith, ◌≡◌, ◌≤◌, ℕ, List, [], length, take, refl, sym, ◌∙◌, ap, subst}, lemmas.List.{take_all}}
 use Rattle.std.proofs.lemmas.List.{length-take-le}
 use Rattle.std.specs.{Prelude.{None, Some, IfSome, IsSome, IsSomeAnd, option_map}, declared.option.Option.{Option}}
-use Rattle.client_world.specs.{declared.limits.TheConstants.{DEFAULT_PAGES, MAX_KEYS, MAX_TRACE}, declared.outcome.LoadFault.{LoadFault}}
-use Rattle.client_world.specs.{Soundness.{IsSound}, World.{HostWorld}}
+use Rattle.client_world.specs.declared.limits.TheConstants.{DEFAULT_PAGES, MAX_KEYS, MAX_TRACE, DEFAULT_TRACE}
+use Rattle.client_world.specs.{declared.outcome.LoadFault.{LoadFault}, Soundness.{IsSound}, World.{HostWorld}}
 use Rattle.guest_ram.specs.Bytes.{AreBytes}
 use Rattle.client_maker.specs.Made.{made}
 use Rattle.host_memory.specs.Blank.{blank_world}
 use Rattle.mz_loader.specs.Refusal.{refusal}
 use Rattle.host_run.specs.Start.{host_at_start, blank, IsBlank}
-use Rattle.dpmi_words.specs.Meaning.{Pressed, Meaning, meaning}
+use Rattle.dpmi_words.specs.Meaning.{Pressed, Meaning, meaning, PairMeaning}
 use Rattle.dpmi_io.specs.Content.{Files, Starts as Opens}
-use Rattle.dpmi_cli.specs.{declared.prepare.Reason.TheVariants.{Words, Load}, Answer.{Verdict, Refuses, StartsMade, keys_from}}
-use Rattle.dpmi_cli.specs.{Answer.{bytes_within, made_verdict, verdict_of}, Causes.{HasVerdict, OfFiles}, Load.{HasFront, HasPressed}}
-use Rattle.dpmi_cli.specs.Load.{IsReady}
+use Rattle.dpmi_cli.specs.{declared.prepare.Reason.TheVariants.{Words, Load, LoadOf}, Answer.{Verdict, Refuses, StartsMade, keys_from}}
+use Rattle.dpmi_cli.specs.{Answer.{bytes_within, made_verdict, verdict_of, StartsPair, first_load, second_load}, Causes.{HasVerdict}}
+use Rattle.dpmi_cli.specs.{Causes.{OfFiles}, Load.{HasFront, HasPressed, IsReady, HasPairRanges, IsNew}}
+use Rattle.pair_run.specs.declared.lines.Letter.TheVariants.{A, B}
 
 -- what holds of the files
 
@@ -114,3 +115,24 @@ made_taken number file w is taken started =
     let none : refusal (made number) ≡ None = ap refusal (sym is) ∙ taken in
     let at : w ≡ host_at_start DEFAULT_PAGES [] MAX_TRACE (made number) = started ∙ ap (host_at_start DEFAULT_PAGES [] MAX_TRACE) is in
     ap (StartsMade number) at ∙ sym (ap (by_refusal number) none)
+
+pub second_refused : (p : PairMeaning) (a : HostWorld) (b : List ℕ) (fault : LoadFault) → refusal b ≡ Some fault →
+    second_load p a b (refusal b) ≡ Refuses (LoadOf B fault)
+second_refused p a b fault is = ap (second_load p a b) is
+
+pub second_taken : (p : PairMeaning) (a : HostWorld) (b : List ℕ) (w : HostWorld) → refusal b ≡ None →
+    w ≡ host_at_start p.pages_b [] DEFAULT_TRACE b → second_load p a b (refusal b) ≡ StartsPair p.slice p.bound a w
+second_taken p a b w taken start = ap (second_load p a b) taken ∙ ap (StartsPair p.slice p.bound a) (sym start)
+
+pub first_refused : (p : PairMeaning) (a b : List ℕ) (fault : LoadFault) → refusal a ≡ Some fault →
+    first_load p a b (refusal a) ≡ Refuses (LoadOf A fault)
+first_refused p a b fault is = ap (first_load p a b) is
+
+pub first_taken : (p : PairMeaning) (a b : List ℕ) (w : HostWorld) (v : Verdict) → refusal a ≡ None →
+    w ≡ host_at_start p.pages_a [] DEFAULT_TRACE a → second_load p w b (refusal b) ≡ v → first_load p a b (refusal a) ≡ v
+first_taken p a b w v taken start second =
+    ap (first_load p a b) taken ∙ ap (λ (x : HostWorld). second_load p x b (refusal b)) (sym start) ∙ second
+
+-- two clients that are loaded may take turns
+pub new_pair : (p : PairMeaning) (a b : HostWorld) → HasPairRanges p → IsReady a → IsReady b → IsNew (StartsPair p.slice p.bound a b)
+new_pair p a b ranges first second = (first, second, ranges.turns)

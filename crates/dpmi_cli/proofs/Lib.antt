@@ -1,7 +1,4 @@
 mod Complete
 mod Files
-mod PairAnswers
-mod PairFiles
-mod Ranges
 mod RunAnswers
-mod SmallStatus
+mod Ranges

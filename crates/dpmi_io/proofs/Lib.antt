@@ -1,5 +1,3 @@
 pub mod Decimal
-mod Input
 pub mod Output
-pub mod Putting
 mod Stored

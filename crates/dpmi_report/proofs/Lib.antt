@@ -1,4 +1,2 @@
 mod BlockBytes
-mod Counts
-mod Pieces
 mod Sequence

@@ -1,9 +1,15 @@
--- An option and its value in one word or in two are read alike.
-use Rattle.std.proofs.Common.{◌≡◌, ◌∙◌, ◌&&◌, not, Bool, cond, true, false, true≢false, refl, ap, List, [], ◌∷◌, ◌++◌}
+-- An option and its value in one word or in two are read alike; what follows a hyphen is what clap's word says.
+use Rattle.std.proofs.Common.{◌≡◌, [], ◌∷◌, refl, ◌∙◌, ◌&&◌, not, Bool, cond, true, false, true≢false, ap, List, ◌++◌}
+use Rattle.clap.specs.Lexer.{strip_byte}
+use Rattle.dpmi_words.specs.Reading.{Text, after_hyphen, Reading, reads, step, step_by, option_of, gives, has_given, is_option_name}
+use Rattle.dpmi_words.specs.{Reading.{is_hyphened, finished, given_by, nothing_read}, OptionWords.{option_word_of, option_with_value}}
+use Rattle.dpmi_words.specs.OptionWords.{IsName}
 use Rattle.std.specs.{Prelude.{option_and_then, Some, None}, declared.option.Option.{Option}}
 use Rattle.clap.proofs.LexerLemmas.{name_and_value-at, name_and_value-without}
-use Rattle.dpmi_words.specs.Reading.{Text, Reading, reads, step, step_by, option_of, gives, has_given, is_option_name, is_hyphened}
-use Rattle.dpmi_words.specs.{Reading.{finished, given_by, nothing_read}, OptionWords.{option_word_of, option_with_value, IsName}}
+
+pub strip_is : (text : Text) → strip_byte 45 text ≡ after_hyphen text
+strip_is [] = refl
+strip_is (c ∷ cs) = refl
 
 one_word : (name value : Text) → IsName name → option_of (option_with_value name value) ≡ Some (name, Some value)
 one_word [] value is = absurd (true≢false is.0)

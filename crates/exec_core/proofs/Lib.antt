@@ -1,3 +1,2 @@
 pub mod BitLaws
 pub mod Parts
-pub mod Pushes

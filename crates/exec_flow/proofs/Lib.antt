@@ -1,3 +1,2 @@
 pub mod EnterLaws
-pub mod FrameReads
 pub mod Loaded

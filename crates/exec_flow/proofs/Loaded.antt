@@ -6,7 +6,7 @@ use Rattle.client_world.specs.{declared.faults.Fault.{Fault}, declared.registers
 use Rattle.client_world.specs.Segments.{with_selector}
 use Rattle.guest_space.specs.{Pending.{first_write_fault, after_writes}, Registers.{with_registers}}
 use Rattle.host_memory.specs.View.{MachineView}
-use Rattle.insn_plan.proofs.Settled.{settled_with}
+use Rattle.insn_plan.proofs.WrittenState.{settled_with}
 use Rattle.insn_plan.specs.{Act.{Pending, with_regs}, Plan.{after_commit, with_state}}
 
 granted_regs : (o : Option Fault) (v u : MachineView) →

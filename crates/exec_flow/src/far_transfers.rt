@@ -144,7 +144,7 @@ pub fn can_pop_frame(m: &Machine, bits: u8) -> bool
 /// Pops a frame that an interrupt pushed, in items of n bits: the instruction pointer, CS and the flags image; or gives the event, which
 /// changes nothing. Source: 80386 Programmer's Reference Manual, ch. 17, IRET.
 #[inline(always)]
-#[tactic(auto, using(insn_plan::proofs::Settled::carried_event))]
+#[tactic(auto, using(insn_plan::proofs::WrittenState::carried_event))]
 pub fn pop_frame(m: &mut Machine, bits: u8) -> Result<(), Raised>
     ensures { CarriesOut m.old m.new result (interrupt_frame_pop m.old.world bits) }
 {

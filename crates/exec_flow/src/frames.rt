@@ -93,7 +93,7 @@ fn plan_enter(m: &Machine, i: &Insn, next: &mut Next) -> Result<(), Raised>
 
 /// ENTER. Source: 80386 Programmer's Reference Manual, ch. 17; that it reads before it writes is own.
 #[inline(never)]
-#[tactic(auto, using(insn_plan::proofs::Settled::carried_by, insn_plan::proofs::Settled::carried_event))]
+#[tactic(auto, using(insn_plan::proofs::WrittenState::carried_by, insn_plan::proofs::WrittenState::carried_event))]
 pub(crate) fn enter(m: &mut Machine, i: &Insn) -> Result<(), Raised>
     ensures { CarriesOut m.old m.new result (enter m.old.world i.now) }
 {

@@ -90,7 +90,7 @@ pub(crate) fn pop_segment(m: &mut Machine, i: &Insn) -> Result<(), Raised>
 /// LES, LDS, LSS, LFS, LGS. Source: 80386 Programmer's Reference Manual, ch. 17, LGS/LSS/LDS/LES/LFS.
 #[inline(never)]
 #[tactic(auto, unfolding(crate::specs::Segments::load_pointer, crate::specs::Segments::with_loaded_segment, //
-insn_plan::specs::Plan::after_plan), using(crate::proofs::Loaded::settled_with_selector, insn_plan::proofs::Settled::refused_with))]
+insn_plan::specs::Plan::after_plan), using(crate::proofs::Loaded::settled_with_selector, insn_plan::proofs::WrittenState::refused_with))]
 pub(crate) fn load_pointer(m: &mut Machine, i: &Insn, seg: SegReg) -> Result<(), Raised>
     ensures { CarriesOut m.old m.new result (load_pointer seg m.old.world i.now) }
 {

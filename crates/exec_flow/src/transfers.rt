@@ -146,7 +146,7 @@ impl InsnRow for Call {
 
     #[inline(always)]
     #[tactic(auto, unfolding(crate::specs::Transfers::call, crate::specs::Transfers::near_transfer, insn_plan::specs::Plan::after_plan), //
-    using(insn_plan::proofs::Settled::settled_with, insn_plan::proofs::Settled::refused_with))]
+    using(insn_plan::proofs::WrittenState::settled_with, insn_plan::proofs::WrittenState::refused_with))]
     fn carry_out<L: Look>(self, m: &mut Machine, i: &Insn) -> Result<(), L::Missed> {
         let ip = target::<L>(m, i)?;
         let eip = at_operand_size(i, ip);

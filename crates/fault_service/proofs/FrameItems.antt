@@ -1,23 +1,40 @@
--- The items of a frame on the host's stack, as a return reads them.
-use Rattle.std.proofs.Common.{◌≡◌, ◌≢◌, ℕ, ◌+◌, ◌*◌, ◌<◌, ◌≤◌, ◌⊎◌, inl, inr, zero, suc, Bool, true, false, List, [], ◌∷◌, length, get_or}
-use Rattle.std.proofs.{Common.{refl, ap, ◌∙◌, arith, Option, None, Result, Ok}, Math.Seq.{drop-append-add}}
+-- The items of a frame on the host's stack: their bytes, and how a return reads them.
+use Rattle.std.proofs.Common.{◌≡◌, ℕ, ◌*◌, List, [], ◌∷◌, length, replicate, refl, ◌∙◌, arith, ◌≢◌, ◌+◌, ◌<◌, ◌≤◌, ◌⊎◌, inl, inr, zero, suc}
+use Rattle.std.proofs.{Common.{Bool, true, false, get_or, ap, Option, None, Result, Ok}, Math.Seq.{drop-append-add}}
+use Rattle.guest_ram.specs.Bytes.{put, region}
+use Rattle.fault_service.specs.{Delivery.{items_bytes}, Return.{pending_of_exception_frame, exception_frame_pop, frame_regs}}
+use Rattle.fault_service.specs.Trip.{cut_item}
+use Rattle.guest_ram.proofs.PutLaws.{put_all}
 use Rattle.client_world.specs.{declared.faults.Event.{Event}, declared.faults.Fault.{Fault}, declared.limits.TheConstants.{GREATEST_DEPTH}}
 use Rattle.client_world.specs.{declared.memory_map.TheConstants.{PROTECTED_STACK_SIZE}, declared.registers.Mode.TheVariants.{Protected}}
 use Rattle.client_world.specs.{declared.registers.TheConstants.{INTERRUPT_BIT}, declared.segments.SegReg.TheVariants.{Cs, Ss}}
 use Rattle.client_world.specs.{declared.selectors.TheConstants.{HOST_STACKS}, Loading.{load_fault}, Registers.{has_bit, low_half}}
 use Rattle.client_world.specs.{Selector.{selector_of}, Soundness.{IsSound}, World.{World}}
-use Rattle.guest_ram.specs.Bytes.{region}
 use Rattle.guest_space.specs.{Far.{far_bytes}, Pending.{byte_count, number_bytes}, Transfer.{read_result}}
 use Rattle.guest_space.proofs.{FarLaws.{part_is_read}, HostStacks.{stacks_at, stacks_loaded, stacks_reachable}, WriteRuns.{count_some}}
 use Rattle.host_memory.specs.View.{MachineView}
 use Rattle.insn_forms.specs.Grammar.{little_endian}
 use Rattle.insn_plan.specs.{Act.{Act, Pending, number_read, unless_fault, value_of}, Plan.{after_plan, plan_result, with_state}}
 use Rattle.insn_plan.specs.{Registers.{cut_address}, Stack.{stack_item, stack_pointer_up}}
-use Rattle.insn_plan.proofs.Settled.{carried_by}
-use Rattle.fault_service.specs.{Delivery.{items_bytes}, Return.{pending_of_exception_frame, exception_frame_pop, frame_regs}}
-use Rattle.fault_service.specs.Trip.{cut_item}
+use Rattle.insn_plan.proofs.WrittenState.{carried_by}
 use Rattle.fault_service.proofs.Plans.{settled_is}
-use Rattle.exec_flow.proofs.FrameReads.{planned_read}
+use Rattle.exec_flow.proofs.EnterLaws.{planned_read}
+
+pub length-words : (items : List ℕ) → length (items_bytes 16 items) ≡ 2 * length items
+length-words [] = refl
+length-words (x ∷ xs) = let rest = length-words xs in omega arith
+
+pub length-dwords : (items : List ℕ) → length (items_bytes 32 items) ≡ 4 * length items
+length-dwords [] = refl
+length-dwords (x ∷ xs) = let rest = length-dwords xs in omega arith
+
+pub all_words : (items into : List ℕ) → length items ≡ 8 → into ≡ put (replicate 16 0) 0 (items_bytes 16 items) →
+    into ≡ items_bytes 16 items
+all_words items into size e = e ∙ put_all (replicate 16 0) (items_bytes 16 items) (omega (arith, length-words items, size))
+
+pub all_dwords : (items into : List ℕ) → length items ≡ 8 → into ≡ put (replicate 32 0) 0 (items_bytes 32 items) →
+    into ≡ items_bytes 32 items
+all_dwords items into size e = e ∙ put_all (replicate 32 0) (items_bytes 32 items) (omega (arith, length-dwords items, size))
 
 -- a world whose stack pointer is above the return address of a frame at that offset of the host's stacks
 pub record AtFrame (w : World) (bits offset : ℕ) (frame : List ℕ) : Type 0 where

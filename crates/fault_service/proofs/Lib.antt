@@ -1,12 +1,6 @@
-pub mod FrameBytes
-pub mod KeptRecords
-pub mod MemoryLaws
+pub mod FrameItems
 pub mod Plans
 pub mod SoundAnswers
-pub mod FrameItems
 pub mod RoundTrip
 pub mod AwayWrites
-pub mod ByMode
-pub mod StepMemory
-pub mod WorldLaws
 pub mod WrittenTouches

@@ -1,13 +1,17 @@
--- What the plan of a return leaves: no write, and segment registers that are words.
-use Rattle.std.proofs.Common.{◌≡◌, ℕ, ◌<◌, Bool, [], refl, Option, None, Some, Result, Ok, Err, arith}
+-- What the plan of a return leaves: no write, and segment registers that are words. Where the innermost record is an exception's there is
+-- one, and popping the frame keeps it.
+use Rattle.std.proofs.Common.{◌≡◌, ℕ, ◌<◌, Bool, [], refl, Option, None, Some, Result, Ok, Err, arith, ◌-◌, true, List, ◌∷◌, length, ap}
 use Rattle.client_world.specs.{declared.faults.Event.{Event}, declared.faults.Event.TheVariants.{Fault as fault}}
-use Rattle.client_world.specs.{declared.faults.Fault.{Fault}, declared.registers.Regs.{Regs}, Soundness.{HasSegments}, World.{World}}
+use Rattle.client_world.specs.{declared.faults.Fault.{Fault}, declared.registers.Regs.{Regs}, Soundness.{HasSegments}, World.{World, depth}}
+use Rattle.client_world.specs.declared.calls.Record.{Record}
 use Rattle.cpu_step.proofs.SegmentWords.{half_is_word}
 use Rattle.guest_space.proofs.Writes.{all_none, first_none}
 use Rattle.host_memory.specs.View.{MachineView}
 use Rattle.insn_plan.specs.{Act.{Act, Input, Pending, Read, unless_fault, value_of}, Plan.{after_plan, plan_result, after_commit}}
 use Rattle.insn_plan.specs.Plan.{with_state}
-use Rattle.fault_service.specs.Return.{pending_of_exception_frame, exception_frame_pop}
+use Rattle.fault_service.specs.Return.{pending_of_exception_frame, exception_frame_pop, is_exception}
+use Rattle.std.specs.List.{slice_get}
+use Rattle.mode_stack.specs.Stack.{top}
 
 -- what is left is such that nothing is written, and the segment registers are words
 pub record IsRestore (regs : Regs) (p : Pending) : Type 0 where
@@ -75,3 +79,17 @@ carries v u (Err f) h e = absurd cc
 pub pop_restores : (v u : MachineView) (bits : ℕ) → after_plan v (plan_result v.world (exception_frame_pop v.world bits)) ≡ Ok u →
     Restores v u
 pop_restores v u bits e = carries v u (plan_result v.world (exception_frame_pop v.world bits)) (of_popped v.world bits).plan e
+
+abbrev top_of : List Record → Option Record
+top_of calls = slice_get calls (length calls - 1)
+
+some_record : (calls : List Record) → is_exception (top_of calls) ≡ true → 0 < length calls
+some_record [] e = absurd cc
+some_record (r ∷ calls) e = omega arith
+
+pub exception_there : (w : World) → is_exception (top w) ≡ true → 0 < depth w
+exception_there w e = some_record w.calls e
+
+pub pop_keeps_depth : (v u : MachineView) (bits : ℕ) → after_plan v (plan_result v.world (exception_frame_pop v.world bits)) ≡ Ok u →
+    depth u.world ≡ depth v.world
+pop_keeps_depth v u bits e = ap (λ (t : MachineView). depth t.world) (pop_restores v u bits e).is

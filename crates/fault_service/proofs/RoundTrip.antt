@@ -1,17 +1,18 @@
--- At the handler the frame is read as it was written, and a return restores what a delivery saved.
+-- At the handler the frame is read as it was written, and a return restores what a delivery saved. A delivery and a return of worlds: a
+-- delivery adds the record of its exception, and a return takes one away.
 use Rattle.std.proofs.Common.{◌≡◌, ◌≢◌, ℕ, ◌+◌, ◌-◌, ◌*◌, ◌<◌, ◌≤◌, ◌⊎◌, inl, inr, Bool, true, false, List, [], ◌∷◌, ◌++◌, length, take}
-use Rattle.std.proofs.{Common.{refl, ap, ◌∙◌, sym, subst, arith, Option, None, Some, Result, Ok}, lemmas.List.{length-append, get_or_at}}
-use Rattle.std.proofs.{Math.Seq.{take-append_seam}, lemmas.Option.{slice_get-get_or}}
-use Rattle.std.specs.List.{slice_get}
-use Rattle.client_world.specs.{declared.calls.Record.{Record}, declared.calls.Record.TheVariants.{Exc}, declared.faults.Event.{Event}}
-use Rattle.client_world.specs.{declared.faults.Fault.{Fault}, declared.limits.TheConstants.{GREATEST_DEPTH}}
+use Rattle.std.proofs.{Common.{refl, ap, ◌∙◌, sym, subst, arith, Option, None, Some, Result, Ok, Err}, lemmas.List.{length-append}}
+use Rattle.std.proofs.{lemmas.List.{get_or_at}, Math.Seq.{take-append_seam}, lemmas.Option.{slice_get-get_or}}
+use Rattle.std.specs.{List.{slice_get}, Prelude.{if◌then◌else◌}}
+use Rattle.client_world.specs.{declared.calls.Record.{Record}, declared.calls.Record.TheVariants.{Exc, Sim, Back}}
+use Rattle.client_world.specs.{declared.faults.Event.{Event}, declared.faults.Fault.{Fault}, declared.limits.TheConstants.{GREATEST_DEPTH}}
 use Rattle.client_world.specs.{declared.registers.Flags.{Flags}, declared.registers.Mode.{Mode}, declared.registers.Mode.TheVariants.{Real}}
 use Rattle.client_world.specs.{declared.registers.Mode.TheVariants.{Protected}, declared.registers.Regs.{Regs}}
 use Rattle.client_world.specs.{declared.registers.TheConstants.{INTERRUPT_BIT}, declared.registers.Width.{Width}}
 use Rattle.client_world.specs.{declared.registers.Width.TheVariants.{Sixteen, ThirtyTwo}, declared.segments.FarPtr.{FarPtr}}
 use Rattle.client_world.specs.{declared.segments.SegReg.TheVariants.{Cs, Ss}, declared.selectors.TheConstants.{HOST_STACKS}}
 use Rattle.client_world.specs.{Loading.{load_fault}, Registers.{flags_image, has_bit, low_half}, Selector.{selector_of}}
-use Rattle.client_world.specs.{Soundness.{IsSound, HasSegments}, World.{World, depth}}
+use Rattle.client_world.specs.{Soundness.{IsSound, HasSegments}, World.{World, depth}, declared.outcome.Exit.{Exit}}
 use Rattle.client_world.proofs.{SoundWrites.{IsSound-regs, IsSound-vif, protected_by}, FlagBits.{image_small}}
 use Rattle.exec_flow.specs.Interrupts.{frame_bits, item_bits}
 use Rattle.guest_space.specs.{Far.{far_bytes}, Pending.{byte_count}, Transfer.{read_result}}
@@ -20,13 +21,16 @@ use Rattle.guest_space.proofs.MemoryAlone.{other_far}
 use Rattle.host_memory.specs.View.{MachineView}
 use Rattle.insn_plan.specs.Plan.{after_plan, plan_result, with_state}
 use Rattle.mode_stack.specs.Stack.{after_pop, top}
-use Rattle.mode_stack.proofs.Trips.{FlagsTrip}
+use Rattle.mode_stack.proofs.Trips.{FlagsTrip, but_last, split_last}
 use Rattle.fault_service.specs.Delivery.{after_delivery, exception_frame, exception_items, exception_frame_start, exception_frame_size}
 use Rattle.fault_service.specs.{Delivery.{handler_regs, protected_delivery}, Return.{exception_frame_pop, exception_return, is_exception}}
-use Rattle.fault_service.specs.Trip.{FrameLaw, TripLaw, cut_item, regs_after_return}
-use Rattle.fault_service.proofs.{FrameItems.{AtFrame, popped_is, item_values}, MemoryLaws.{is_delivered, frame_written}}
-use Rattle.fault_service.proofs.SoundAnswers.{sound_delivered}
-use Rattle.interrupts.proofs.SoundAnswers.{code_is_named_by_a_word}
+use Rattle.fault_service.specs.{Return.{result_of_exception_pop}, Trip.{FrameLaw, TripLaw, cut_item, regs_after_return}}
+use Rattle.fault_service.specs.Worlds.{world_exception_return, world_protected_delivery}
+use Rattle.fault_service.proofs.{FrameItems.{AtFrame, popped_is, item_values}, SoundAnswers.{is_delivered, frame_written, sound_delivered}}
+use Rattle.fault_service.proofs.{SoundAnswers.{sound_delivery, sound_return}, Plans.{Restores, pop_restores}}
+use Rattle.interrupts.proofs.SoundAnswers.{code_is_named_by_a_word, holds_of_world}
+use Rattle.interrupts.specs.Worlds.{view_without_bytes}
+use Rattle.client_world.specs.declared.outcome.Exit.TheVariants as exits
 
 abbrev pub InterruptTrip : Type 0
 InterruptTrip = (f : Flags) (interrupt : Bool) → has_bit (flags_image f interrupt) INTERRUPT_BIT ≡ interrupt
@@ -219,3 +223,74 @@ delivered_calls v f p = refl
 
 pub records_back : (v u : MachineView) (f : Fault) → protected_delivery v f ≡ Ok u → (after_pop u).world.calls ≡ v.world.calls
 records_back v u f e = grind (arith, calls_kept, delivered_calls, front_is, is_delivered)
+
+-- ---- of worlds
+
+pub sound_world_delivery : (w u : World) (f : Fault) → IsSound w → w.mode ≡ Protected → world_protected_delivery w f ≡ Ok u → IsSound u
+unfolding world_protected_delivery
+sound_world_delivery w u f s mode e =
+    holds_of_world IsSound (protected_delivery (view_without_bytes w) f) u (λ v is. sound_delivery (view_without_bytes w) v f s mode is) e
+
+pub sound_world_return : (w u : World) → IsSound w → world_exception_return w ≡ Ok u → IsSound u
+unfolding world_exception_return
+sound_world_return w u s e =
+    holds_of_world IsSound (exception_return (view_without_bytes w)) u (λ v is. sound_return (view_without_bytes w) v s is) e
+
+-- ---- a delivery adds the record of its exception
+
+delivered_record : (v u : MachineView) (f : Fault) → protected_delivery v f ≡ Ok u →
+    u.world.calls ≡ v.world.calls ++ Exc f.number f.code ∷ []
+delivered_record v u f e = grind (arith, calls_kept, delivered_calls, is_delivered)
+
+pub pushed_record : (w u : World) (f : Fault) → world_protected_delivery w f ≡ Ok u → u.calls ≡ w.calls ++ Exc f.number f.code ∷ []
+unfolding world_protected_delivery
+pushed_record w u f e = grind (arith, delivered_record, holds_of_world)
+
+-- ---- a return takes the record of an exception away
+
+-- the innermost record is an exception's, and the other records are these
+pub record Popped (calls others : List Record) : Type 0 where
+  pub number : ℕ
+  pub code : ℕ
+  pub top_is : slice_get calls (length calls - 1) ≡ Some (Exc number code)
+  pub is : calls ≡ others ++ Exc number code ∷ []
+
+popped_by : (calls : List Record) (o : Option Record) → slice_get calls (length calls - 1) ≡ o → is_exception o ≡ true →
+    Popped calls (but_last calls)
+popped_by calls None is e = absurd cc
+popped_by calls (Some (Sim call saved vif at)) is e = absurd cc
+popped_by calls (Some (Back slot at)) is e = absurd cc
+popped_by calls (Some (Exc number code)) is e =
+    record { number = number; code = code; top_is = is; is = split_last calls (Exc number code) is }
+
+returned_calls : (r : Result MachineView Event) (v u : MachineView) → ((x : MachineView) → r ≡ Ok x → Restores v x) →
+    result_of_exception_pop r ≡ Ok u →
+    u.world.calls ≡ but_last v.world.calls
+returned_calls (Ok x) v u restores e =
+    let same : u.world.calls ≡ but_last x.world.calls = ap calls_of (sym e) in
+    same ∙ ap (λ (t : MachineView). but_last t.world.calls) (restores x refl).is
+  where
+    calls_of : Result MachineView Exit → List Record
+    calls_of (Ok t) = t.world.calls
+    calls_of (Err g) = []
+returned_calls (Err g) v u restores e = absurd cc
+
+where_exception : (exception : Bool) (v u : MachineView) → is_exception (top v.world) ≡ exception →
+    (if exception then result_of_exception_pop (after_plan v (plan_result v.world (exception_frame_pop v.world (frame_bits v.world))))
+    else Err exits.Stray) ≡ Ok u →
+    Popped v.world.calls u.world.calls
+where_exception true v u is e =
+    let rest = returned_calls (after_plan v (plan_result v.world (exception_frame_pop v.world (frame_bits v.world)))) v u
+    (λ x was. pop_restores v x (frame_bits v.world) was) e in
+    rw rest (popped_by v.world.calls (top v.world) refl is)
+where_exception false v u is e = absurd cc
+
+machine_popped : (v u : MachineView) → exception_return v ≡ Ok u → Popped v.world.calls u.world.calls
+unfolding exception_return
+machine_popped v u e = where_exception (is_exception (top v.world)) v u refl e
+
+pub popped_record : (w u : World) → world_exception_return w ≡ Ok u → Popped w.calls u.calls
+unfolding world_exception_return
+popped_record w u e =
+    holds_of_world (λ (x : World). Popped w.calls x.calls) (exception_return (view_without_bytes w)) u
+    (λ v is. machine_popped (view_without_bytes w) v is) e

@@ -57,7 +57,7 @@ fn exception_frame_at_top(m: &Machine, bits: u8) -> Result<ExceptionFrame, Raise
 }
 
 // Pops that frame; or gives the event, which changes nothing.
-#[tactic(auto, using(insn_plan::proofs::Settled::carried_event))]
+#[tactic(auto, using(insn_plan::proofs::WrittenState::carried_event))]
 fn pop_exception(m: &mut Machine, bits: u8) -> Result<(), Raised>
     ensures { CarriesOut m.old m.new result (exception_frame_pop m.old.world bits) }
 {

@@ -12,7 +12,7 @@ use Rattle.guest_ram.proofs.PutLaws.{region-put_below}
 use Rattle.host_memory.specs.{DosList.{entry_at, entry_count, entry_size, arena_in}, Headers.{header_letter, dos_header, owner_of}}
 use Rattle.host_memory.specs.{Headers.{with_headers}, Layout.{arena_part}}
 use Rattle.host_memory.proofs.{Parts.{HasParts, MemoryParts}, PutParts.{Dos, put_part}, ListsClaim.{length-arena_in}}
-use Rattle.guest_space.proofs.{ArenaReads.{HasFrames, entry_there}, Fills.{fills_at}}
+use Rattle.guest_space.proofs.{ArenaLists.{HasFrames, entry_there}, ArenaRuns.{fills_at}}
 
 pub length-header : (letter : ℕ) (entry : DosEntry) → length (dos_header letter entry) ≡ 16
 unfolding dos_header

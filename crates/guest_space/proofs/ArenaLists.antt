@@ -1,16 +1,18 @@
--- The bytes that a list of entries of DOS memory has in its frames, and that the entries are read from them again.
+-- The bytes that a list of entries of DOS memory has in its frames, and that the entries are read from them again, where they lie one after
+-- another.
 use Rattle.std.proofs.Common.{◌≡◌, ◌≢◌, ℕ, zero, suc, ◌+◌, ◌-◌, ◌*◌, ◌/◌, ◌%◌, ◌<◌, ◌≤◌, ◌⊎◌, inl, inr, List, [], ◌∷◌, ◌++◌, length, get_or}
 use Rattle.std.proofs.{Common.{take, drop, refl, ap, ◌∙◌, sym, arith, add-zero, zero-add, add_assoc, length-append}, lemmas.Bool.{cases_lt}}
 use Rattle.std.proofs.{lemmas.Bool.{eq-eqb, ne_eqb}, lemmas.Grind.{same_number_lists}, lemmas.List.{length-take, take-append-drop}}
 use Rattle.std.proofs.lemmas.List.{get_or_append_left, get_or-append_right, get_or_past}
 use Rattle.client_world.specs.{declared.dos_memory.DosEntry.{DosEntry}, declared.dos_memory.DosState.{DosState}}
-use Rattle.client_world.specs.declared.dos_memory.DosState.TheVariants.{Free, Used, Dpmi}
+use Rattle.client_world.specs.{declared.dos_memory.DosState.TheVariants.{Free, Used, Dpmi}, declared.host_frames.TheConstants.{PAGE_SIZE}}
+use Rattle.client_world.specs.declared.host_frames.TheConstants.{BUDGET_FRAMES, DOS_LIST}
 use Rattle.guest_ram.specs.Listed.{zeros}
-use Rattle.guest_ram.proofs.{ListedLaws.{at_listed, is_listed, length-zeros, at_zeros}, ByteLists.{word_back}}
+use Rattle.guest_ram.proofs.{ListedLaws.{at_listed, is_listed, length-zeros, at_zeros}, ByteLists.{word_back}, PutLaws.{at_region}}
 use Rattle.host_memory.specs.DosList.{entry_at, entry_bytes, state_of, state_code, entries_from, entry_count, entry_room, entry_size}
-use Rattle.host_memory.specs.DosList.{list_size, arena_in, KeepsArena}
+use Rattle.host_memory.specs.{DosList.{list_size, arena_in, KeepsArena}, Layout.{arena_part}}
 use Rattle.guest_space.specs.Arena.{list_bytes, arena_bytes}
-use Rattle.host_memory.proofs.ListsClaim.{length-arena_in}
+use Rattle.host_memory.proofs.ListsClaim.{length-arena_in, entries_few}
 
 -- eight bytes that are the same are the same entry
 pub same_entry : (a b : List ℕ) (p q : ℕ) → ((i : ℕ) → i < entry_size → get_or a (p + i) 0 ≡ get_or b (q + i) 0) →
@@ -176,3 +178,31 @@ arena_bytes_are part size few keeps = same_number_lists part (arena_bytes (arena
           ∙ ap (λ (k : ℕ). get_or (arena_bytes (arena_in part)) k 0) (sym split))
       | inr past ↦ keeps.rest at past (omega (arith, count)) ∙ sym (past_arena_bytes (arena_in part) at (omega (arith, count)))
     ]
+
+-- the memory has the host's frames
+abbrev pub HasFrames : List ℕ → Type 0
+HasFrames b = PAGE_SIZE * BUDGET_FRAMES ≤ length b
+
+-- where the list is
+abbrev pub list_start : ℕ
+list_start = PAGE_SIZE * DOS_LIST
+
+pub few_entries : (part : List ℕ) → entry_count part ≤ entry_room
+few_entries part = entries_few part 0 entry_room
+
+entry_here : (c : List ℕ) (place : ℕ) → place < entry_room →
+    entry_at c (list_start + entry_size * place) ≡ entry_at (arena_part c) (entry_size * place)
+entry_here c place small = grind (arith, add_assoc, at_region, same_entry)
+
+-- an entry is read where the list is as it was
+pub entry_there : (b c : List ℕ) (place : ℕ) (d : DosEntry) → arena_part c ≡ arena_part b → place < entry_count (arena_part b) →
+    entry_at c (list_start + entry_size * place) ≡ get_or (arena_in (arena_part b)) place d
+entry_there b c place d same small = grind (arith, at_arena_in, entry_here, few_entries)
+
+-- where n states aren't 0, and the next one is or the room ends, there are n entries
+pub counted : (b : List ℕ) (n : ℕ) → n ≤ entry_room → ((k : ℕ) → k < n → get_or b (list_start + entry_size * k + 4) 0 ≢ 0) →
+    (entry_room ≡ n) ⊎ (get_or b (list_start + entry_size * n + 4) 0 ≡ 0) → entry_count (arena_part b) ≡ n
+counted b n few some ends = grind (arith, byte, cases_lt, entries_are)
+  where
+    byte : (k : ℕ) → k < entry_room → get_or (arena_part b) (entry_size * (0 + k) + 4) 0 ≡ get_or b (list_start + entry_size * k + 4) 0
+    byte k small = grind (arith, at_region)

@@ -8,11 +8,10 @@ use Rattle.guest_ram.proofs.PutLaws.{length-region, region-put, put_all}
 use Rattle.host_memory.specs.{DosList.{entry_count, list_size, arena_in}, Headers.{with_headers}, Holds.{Holds}, Layout.{arena_part}}
 use Rattle.host_memory.specs.{Layout.{dos_part, world_of}, View.{MachineView}}
 use Rattle.host_memory.proofs.Parts.{HasParts, holds_by, holds_parts, holds_with_arena, holds_with_dos, own_parts, parts_of, world_by}
-use Rattle.host_memory.proofs.{PutParts.{Arena, put_part}, WorldParts.{arena_is}, ListsClaim.{length-arena_in}}
+use Rattle.host_memory.proofs.{Parts.{arena_is}, PutParts.{Arena, put_part}, ListsClaim.{length-arena_in}}
 use Rattle.guest_space.specs.{Arena.{with_replaced_entries, NoneMade, with_entries, arena_bytes}, Machines.{Processor, held_world}}
 use Rattle.guest_space.proofs.{ArenaHeaders.{headers_has, SoundMegabyte-headers}, ArenaLists.{length-arena_bytes, arena_back, arena_keeps}}
-use Rattle.guest_space.proofs.{ArenaReads.{HasFrames, list_start}, ArenaRuns.{SoundRuns-spliced}, ArenaSplices.{length-spliced}}
-use Rattle.guest_space.proofs.Fills.{fills_long}
+use Rattle.guest_space.proofs.{ArenaLists.{HasFrames, list_start}, ArenaRuns.{SoundRuns-spliced, fills_long}, ArenaPuts.{length-spliced}}
 
 -- entries that are an arena have room
 pub arena_few : (es : List DosEntry) → IsArena es → ARENA_START + length es ≤ ARENA_END

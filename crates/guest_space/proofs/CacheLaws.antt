@@ -18,8 +18,9 @@ use Rattle.page_tables.specs.{Walk.{walked, walk_end, fault, directory_entry, ta
 use Rattle.guest_space.specs.{declared.pages.CacheEntry.{CacheEntry}, Cache.{ends, Hit, cached_answer, Warm, empty_entry}}
 use Rattle.guest_space.specs.{declared.pages.TheConstants.{CACHE_SIZE}, Machines.{Processor, IsMachine, held_world}, Records.{record_place}}
 use Rattle.guest_space.specs.Transfer.{translated, with_places}
-use Rattle.guest_space.proofs.{ArenaWrites.{with_arena, arena_has}, KeptAccess.{same_places}, Machines.{AllBytes, machine_of, sound_blocks}}
-use Rattle.guest_space.proofs.{Puts.{store_bytes}, Runs.{can_write_run, run_all}, WriteRuns.{places_keep_addresses}}
+use Rattle.guest_space.proofs.{ArenaWrites.{with_arena, arena_has}, MemoryAlone.{same_places}, Machines.{AllBytes, machine_of}}
+use Rattle.guest_space.proofs.{Machines.{sound_blocks}, Puts.{store_bytes}, Runs.{can_write_run, run_all}}
+use Rattle.guest_space.proofs.WriteRuns.{places_keep_addresses}
 
 abbrev IsYes : Bool → Type 0
 IsYes true = Unit {0}

@@ -1,15 +1,23 @@
--- Code bytes: one by one, and all at once where they can be read together.
+-- Code bytes: one by one, all at once where they can be read together, and as words of the memory. Where one may be fetched, a near
+-- transfer may go.
 use Rattle.std.proofs.Common.{◌≡◌, ℕ, zero, suc, ◌+◌, ◌-◌, ◌%◌, ◌<◌, ◌≤◌, ◌^◌, false, List, [], ◌∷◌, ◌++◌, length, slice_index, refl, ap}
-use Rattle.std.proofs.{Common.{◌∙◌, sym, arith, None, Some, Result, Ok, Err, add-zero, append_assoc}, lemmas.List.{append-nil}}
-use Rattle.std.specs.declared.option.Option.{Option}
+use Rattle.std.proofs.Common.{◌∙◌, sym, arith, None, Some, Result, Ok, Err, add-zero, append_assoc, take, drop, get_or, ◌⊎◌, inl, inr, Bool}
+use Rattle.std.proofs.{Common.{true, ◌&&◌, ◌||◌, if◌then◌else◌, subst}, lemmas.List.{append-nil, drop-take, drop-drop, get_or_past}}
+use Rattle.std.proofs.{lemmas.Bool.{cases_lt}, lemmas.Nat.{le_bytes_8}, Math.Seq.{take-add}, lemmas.Bool.Decides.{nat_tests}}
+use Rattle.std.specs.{declared.option.Option.{Option}, Int.{w64, from_le_bytes, to_le_bytes}, Prelude.{nat_le, nat_lt}}
 use Rattle.client_world.specs.{declared.faults.Fault.{Fault}, declared.place.Place.{Place}, declared.place.Place.TheVariants.{Nothing}}
 use Rattle.client_world.specs.{declared.segments.SegReg.{SegReg}, declared.segments.SegReg.TheVariants.{Cs}, Access.{access, segment_base}}
 use Rattle.client_world.specs.Access.{places_at, places_from, place_in, first_forbidden, unless_forbidden, byte_of, bytes_of, linear}
-use Rattle.client_world.specs.World.{World}
+use Rattle.client_world.specs.{Access.{base_in_row, fault_with}, World.{World}, CodeWords.{code_bytes}}
+use Rattle.client_world.specs.{declared.faults.TheConstants.{GENERAL_PROTECTION}, declared.memory_map.TheConstants.{SEGMENT_SIZE}}
+use Rattle.client_world.specs.{declared.registers.Mode.{Mode}, declared.registers.Mode.TheVariants.{Real, Protected}}
+use Rattle.client_world.specs.{declared.registers.Regs.{Regs}, Loading.{code_row_fault, load_fault, transfer_fault}, Selector.{Row}}
+use Rattle.client_world.specs.Selector.{is_null, row_of_selector}
 use Rattle.client_world.proofs.{PlaceLaws.{length-places_from, places_from-at}, SoundWrites.{at_bytes_of}}
 use Rattle.guest_space.specs.{Code.{one_byte, code_byte, code_from}, Transfer.{read_result, bytes_at, linear_access, fault_of}}
-use Rattle.guest_space.proofs.{Accesses.{loaded_linear, access_refused}, Parts.{code_base, segment_part}, Runs.{AllTouch, all_touch}}
-use Rattle.guest_space.proofs.Runs.{access_ends}
+use Rattle.guest_space.proofs.{Accesses.{loaded_linear, access_refused, code_base, segment_part}, Runs.{AllTouch, all_touch, access_ends}}
+use Rattle.guest_ram.specs.Bytes.{AreBytes, region}
+use Rattle.guest_ram.proofs.PutLaws.{length-region, at_region}
 
 -- one byte, through the linear address
 pub fetched : (w : World) (at base : ℕ) → segment_base w.mode w.regs w.descriptors Cs w.regs.eip (at + 1) false ≡ Ok base →
@@ -148,3 +156,89 @@ code_ends w before all at f within e left =
 
 pub code_full : (w : World) (before all : List ℕ) (at : ℕ) → 15 ≤ at → before ++ code_from w at (15 - at) ≡ all → before ≡ all
 code_full w before all at done left = grind (arith, append-nil, code_none)
+
+-- a byte of a region, or 0 after it
+byte_of_region : (b : List ℕ) (at n i : ℕ) → AreBytes b → at + n ≤ length b → (i < n) ⊎ (n ≤ i) → get_or (region b at n) i 0 < 256
+byte_of_region b at n i bytes inside (inl within) = let same = at_region b at n i within in let small = bytes (at + i) in omega arith
+byte_of_region b at n i bytes inside (inr past) = grind (arith, get_or_past, length-region)
+
+-- eight bytes are those of their number
+bytes_of_region : (b : List ℕ) (at : ℕ) → AreBytes b → at + 8 ≤ length b →
+    to_le_bytes w64 (from_le_bytes w64 (region b at 8)) ≡ region b at 8
+bytes_of_region b at bytes inside =
+    le_bytes_8 (region b at 8) _ (length-region b at 8 inside) (λ i. byte_of_region b at 8 i bytes inside (cases_lt i 8)) refl
+
+-- the bytes of a region after its first
+tail_of_region : (b : List ℕ) (at : ℕ) → drop 1 (region b at 8) ≡ region b (at + 1) 7
+unfolding region
+tail_of_region b at = drop-take 1 7 (drop at b) ∙ ap (take 7) (drop-drop 1 at b)
+
+-- a region in two parts
+region_parts : (b : List ℕ) (at n k : ℕ) → region b at (n + k) ≡ region b at n ++ region b (at + n) k
+unfolding region
+region_parts b at n k = take-add n k (drop at b) ∙ ap (λ (xs : List ℕ). take n (drop at b) ++ take k xs) (drop-drop n at b)
+
+-- the words at an address and seven bytes after it are the 15 bytes from there on
+pub words_of_region : (b : List ℕ) (at low high : ℕ) → AreBytes b → at + 15 ≤ length b → low ≡ from_le_bytes w64 (region b at 8) →
+    high ≡ from_le_bytes w64 (region b (at + 7) 8) → region b at 15 ≡ code_bytes (record { low = low; high = high })
+unfolding code_bytes
+words_of_region b at low high bytes inside first second =
+    let same : at + 7 + 1 ≡ at + 8 = omega arith in
+    region_parts b at 8 7
+    ∙ ap (λ (xs : List ℕ). xs ++ region b (at + 8) 7) (sym (bytes_of_region b at bytes (omega arith)) ∙ ap (to_le_bytes w64) (sym first))
+    ∙ ap (λ (xs : List ℕ). to_le_bytes w64 low ++ xs)
+    (ap (λ (from : ℕ). region b from 7) (sym same) ∙ sym (tail_of_region b (at + 7))
+    ∙ ap (drop 1) (sym (bytes_of_region b (at + 7) bytes (omega arith)) ∙ ap (to_le_bytes w64) (sym second)))
+
+-- there are 15 of them
+
+-- ---- near transfers
+
+abbrev IsBase : Result ℕ Fault → Type 0
+IsBase (Ok base) = Unit {0}
+IsBase (Err fault) = ⊥
+
+is_base : {r : Result ℕ Fault} {base : ℕ} → r ≡ Ok base → IsBase r
+is_base e = subst IsBase (sym e) tt
+
+tests : (bar absent out privileged : Bool) (base : ℕ) (f g h k : Fault) →
+    IsBase (if bar then Err f else if absent then Err g else if out then Err h else Ok base) →
+    (if bar || false && privileged then Some f else if absent then Some g else if out then Some k else None) ≡ None
+tests true absent out privileged base f g h k is = absurd is
+tests false true out privileged base f g h k is = absurd is
+tests false false true privileged base f g h k is = absurd is
+tests false false false privileged base f g h k is = refl
+
+near_in_row : (sel offset base : ℕ) (row : Row) → base_in_row Cs sel row offset 1 false ≡ Ok base →
+    code_row_fault row sel offset false ≡ None
+near_in_row sel offset base None e = absurd (is_base e)
+near_in_row sel offset base (Some row) e = grind (arith, is_base, tests)
+
+unless_null : (rows : List Row) (sel offset base : ℕ) (null : Bool) →
+    (if null then Err (fault_with GENERAL_PROTECTION 0) else base_in_row Cs sel (row_of_selector rows sel) offset 1 false) ≡ Ok base →
+    (if null then Some (fault_with GENERAL_PROTECTION 0) else code_row_fault (row_of_selector rows sel) sel offset false) ≡ None
+unless_null rows sel offset base true e = absurd (is_base e)
+unless_null rows sel offset base false e = near_in_row sel offset base (row_of_selector rows sel) e
+
+same_test : (offset : ℕ) → nat_lt offset SEGMENT_SIZE ≡ nat_le (offset + 1) SEGMENT_SIZE
+same_test offset = grind (arith, nat_tests)
+
+in_real : (inside : Bool) (base : ℕ) (f g : Fault) → IsBase (if inside then Ok base else Err f) → (if inside then None else Some g) ≡ None
+in_real true base f g is = refl
+in_real false base f g is = absurd is
+
+abbrev IsNone : Option Fault → Type 0
+IsNone fault = fault ≡ None
+
+by_mode : (mode : Mode) (r : Regs) (rows : List Row) (offset base : ℕ) → segment_base mode r rows Cs offset 1 false ≡ Ok base →
+    IsNone (elim mode [
+      | Real ↦ if nat_lt offset SEGMENT_SIZE then None else Some (fault_with GENERAL_PROTECTION 0)
+      | Protected ↦ load_fault rows Cs r.cs offset false
+    ])
+unfolding segment_base load_fault
+by_mode Real r rows offset base e = grind (arith, in_real, is_base, same_test)
+by_mode Protected r rows offset base e = unless_null rows r.cs offset base (is_null r.cs) e
+
+pub near_target : (w : World) (offset base : ℕ) → segment_base w.mode w.regs w.descriptors Cs offset 1 false ≡ Ok base →
+    transfer_fault w w.regs.cs offset false ≡ None
+near_target w offset base e = by_mode w.mode w.regs w.descriptors offset base e

@@ -1,17 +1,38 @@
--- The memory after entries of DOS memory were put together with the descriptors of a block: it holds the world with them, which is sound.
-use Rattle.std.proofs.Common.{◌≡◌, ℕ, zero, suc, ◌+◌, ◌<◌, ◌≤◌, List, ap, ◌∙◌, sym, subst, arith}
-use Rattle.client_world.specs.{declared.dos_memory.DosEntry.{DosEntry}, declared.dos_memory.DosRun.{DosRun}}
-use Rattle.client_world.specs.{declared.host_frames.TheConstants.{DESCRIPTORS}, declared.place.Place.{Place}, Soundness.{IsSound}}
-use Rattle.client_world.specs.{World.{World}, Selector.{Row}}
-use Rattle.desc_table.specs.Rows.{row_address, row_bytes}
-use Rattle.host_memory.specs.{Holds.{Holds}, DosList.{arena_in}, Layout.{address_of, arena_part}, View.{MachineView}}
-use Rattle.guest_space.specs.{Arena.{with_replaced_entries, with_entries}, DosRuns.{CanPutRun, dos_row, rows_of_run, with_dos_rows}}
-use Rattle.guest_space.specs.{DosRuns.{with_entries_and_run, with_run_bytes}, declared.machine.Machine.TheInside.{Inside}, Cache.{Warm}}
+-- A machine after entries of DOS memory took the place of others, alone or together with the descriptors of a block: its memory holds the
+-- world with them, which is sound.
+use Rattle.std.proofs.Common.{◌≡◌, ℕ, List, take, drop, ap, Option, arith, zero, suc, ◌+◌, ◌<◌, ◌≤◌, ◌∙◌, sym, subst}
+use Rattle.client_world.specs.{declared.dos_memory.DosEntry.{DosEntry}, Access.{place_in}, DosMemory.{IsArena}, World.{MemoryBlock, World}}
+use Rattle.client_world.specs.{declared.dos_memory.DosRun.{DosRun}, declared.host_frames.TheConstants.{DESCRIPTORS}}
+use Rattle.client_world.specs.{declared.place.Place.{Place}, Soundness.{IsSound}, Selector.{Row}}
+use Rattle.host_memory.specs.{DosList.{arena_in}, Layout.{arena_part, address_of}, View.{MachineView}, Holds.{Holds}}
+use Rattle.guest_space.specs.{declared.machine.Machine.TheInside.{Inside}, Arena.{with_replaced_entries, NoneMade, with_entries}}
+use Rattle.guest_space.specs.{DosRuns.{CanPutRun, dos_row, rows_of_run, with_dos_rows, with_entries_and_run, with_run_bytes}, Cache.{Warm}}
 use Rattle.guest_space.specs.Machines.{held_world}
-use Rattle.guest_space.proofs.{ArenaCalls.{put_there}, ArenaWrites.{with_arena, entries_holds, entries_world, with_entries_rows}}
+use Rattle.guest_space.proofs.ArenaWrites.{with_arena, arena_of, entries_holds, entries_world, entries_sound, put_is, with_entries_rows}
 use Rattle.guest_space.proofs.{ArenaWrites.{with_entries_blocks}, CacheLaws.{arena_addresses, put_beside, row_beside, kept_warm}}
-use Rattle.guest_space.proofs.{DosRows.{run_bytes_none, run_bytes_suc, run_holds, run_world}, DosRunsSound.{IsSound-run}}
-use Rattle.guest_space.proofs.Insides.{processor_of, view_of, IsWhole}
+use Rattle.guest_space.proofs.{Insides.{processor_of, view_of, IsWhole, IsAfter, after_call}, DosRows.{run_bytes_none, run_bytes_suc}}
+use Rattle.guest_space.proofs.{DosRows.{run_holds, run_world}, DosRunsSound.{IsSound-run}}
+use Rattle.desc_table.specs.Rows.{row_address, row_bytes}
+
+-- the entries that a memory has are those of the machine's world
+pub put_there : (m : Inside) (v : MachineView) (c : List ℕ) (place old : ℕ) (new : List DosEntry) → view_of m ≡ v →
+    c ≡ with_arena m.ram (with_replaced_entries (arena_in (arena_part m.ram)) place old new) →
+    c ≡ with_arena m.ram (with_replaced_entries v.world.arena place old new)
+put_there m v c place old new is e = put_is v.world.arena _ m.ram c place old new (arena_of (processor_of m) m.ram v is) e
+
+pub entries_after : (m : Inside) (v : MachineView) → view_of m ≡ v → IsWhole m → (c : List ℕ) (place old : ℕ) (new : List DosEntry) →
+    NoneMade (take old (drop place v.world.arena)) → NoneMade new → IsArena (with_replaced_entries v.world.arena place old new) →
+    c ≡ with_arena m.ram (with_replaced_entries (arena_in (arena_part m.ram)) place old new) →
+    IsAfter m v c (with_entries v.world place old new)
+entries_after m v is whole c place old new gone none arena e =
+    let k = processor_of m in
+    let written = put_there m v c place old new is e in
+    after_call m v c (with_entries v.world place old new) is whole (entries_holds k m.ram c v place old new is whole.0 arena written)
+    (entries_sound k m.ram c v place old new is whole.0 whole.1 gone none arena written)
+    (entries_world k m.ram c v place old new is whole.0 arena written)
+    (with_entries_rows v.world place old new)
+    (λ lin. ap (λ (bs : List (Option MemoryBlock)). place_in bs lin) (with_entries_blocks v.world place old new))
+    (λ p. grind (arith, arena_addresses))
 
 pub record RunMachine (m : Inside) (v : MachineView) (c : List ℕ) (place old : ℕ) (new : List DosEntry) (run : DosRun) : Type 0 where
   pub holds : Holds c m.pages

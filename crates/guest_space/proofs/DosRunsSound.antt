@@ -11,8 +11,8 @@ use Rattle.client_world.specs.{Soundness.{HasOrigin, HasRun, IsRunOf, descriptor
 use Rattle.guest_space.specs.{Arena.{with_replaced_entries, with_entries}, DosRuns.{CanPutRun, block_alone, made_blocks, rows_of_run}}
 use Rattle.guest_space.specs.DosRuns.{with_dos_rows, with_entries_and_run, dos_row}
 use Rattle.guest_space.proofs.{ArenaHeaders.{SoundMegabyte-headers}, ArenaRuns.{Has, has_left, has_right, has_either, has_there, stands}}
-use Rattle.guest_space.proofs.{ArenaRuns.{parts_are}, DosRows.{dos_row_has, dos_row_tells, fits_dos_row, length-dos_rows, of_each_row}}
-use Rattle.guest_space.proofs.{DosRows.{row_outside}, Fills.{fills_long}, DistinctPlaces.{same_dos}}
+use Rattle.guest_space.proofs.{ArenaRuns.{parts_are, fills_long}, DosRows.{dos_row_has, dos_row_tells, fits_dos_row, length-dos_rows}}
+use Rattle.guest_space.proofs.{DosRows.{of_each_row, row_outside}, ReadBack.{same_dos}}
 
 -- ---- the blocks among entries
 

@@ -15,10 +15,10 @@ use Rattle.client_world.specs.{Access.{protected_base, segment_base}, Selector.{
 use Rattle.client_world.specs.{Soundness.{host_stacks}, World.{World, MemoryBlock}}
 use Rattle.client_world.proofs.PlaceLaws.{place-dos, places_from-at}
 use Rattle.host_memory.specs.{Holds.{Holds}, Layout.{world_of}, View.{MachineView, OnlyAt}}
-use Rattle.host_memory.proofs.WorldParts.{budget_is}
+use Rattle.host_memory.proofs.Parts.{budget_is}
 use Rattle.guest_space.specs.{Far.{far_bytes, after_far_write}, Machines.{Processor}, Transfer.{bytes_at, read_result, with_places}}
 use Rattle.guest_space.specs.Transfer.{places_of_access}
-use Rattle.guest_space.proofs.{Fars.{far_places, reachable_linear, reachable_where}, Machines.{CanWriteAll}, OnlyWritten.{HoldsBlocks}}
+use Rattle.guest_space.proofs.{FarLaws.{far_places, reachable_linear, reachable_where}, Machines.{CanWriteAll}, OnlyWritten.{HoldsBlocks}}
 use Rattle.guest_space.proofs.OnlyWritten.{only_places, can_write_at}
 
 -- a byte of the megabyte below its read-only part may be read and written

@@ -5,12 +5,12 @@ use Rattle.client_world.specs.{declared.place.Place.{Place}, declared.segments.F
 use Rattle.client_world.specs.{Access.{access, far_access, may_touch, place_of}, Soundness.{IsSound}, World.{World}}
 use Rattle.page_tables.specs.Walk.{walked}
 use Rattle.host_memory.specs.{Law.{walk_result, StandsAt}, View.{MachineView, OnlyAt}}
-use Rattle.host_memory.proofs.{OnlyAtLaws.{only_start}, WalkLaw.{walk_agrees}}
+use Rattle.host_memory.proofs.{WorldWalks.{only_start}, WalkLaw.{walk_agrees}}
 use Rattle.guest_space.specs.{declared.pending.Write.{Write}, Far.{after_far_write}, Machines.{Processor, IsMachine, HoldsItsWorld}}
 use Rattle.guest_space.specs.Pending.{after_writes, byte_count, first_write_fault, number_bytes, places_of_writes, write_fault, after_write}
 use Rattle.guest_space.specs.Transfer.{places_of_access, access_fault, after_store}
 use Rattle.guest_space.proofs.{HostStacks.{only_far, only_where}, Machines.{sound_blocks, stands_there}, OnlyWritten.{HoldsBlocks}}
-use Rattle.guest_space.proofs.{OnlyWritten.{write_places}, Writes.{Answered}, WritesOnly.{only_writes}}
+use Rattle.guest_space.proofs.{OnlyWritten.{write_places}, Writes.{Answered, only_writes}}
 
 -- a walk of the page tables ends where the client may touch, and else fails as the place says
 pub machine_walks : (v : MachineView) → HoldsItsWorld v → (lin : ℕ) (write : Bool) → lin < 2 ^ 32 →

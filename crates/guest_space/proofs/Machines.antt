@@ -5,7 +5,7 @@ use Rattle.client_world.specs.{declared.place.Place.{Place}, declared.place.Plac
 use Rattle.client_world.specs.{Access.{with_byte_of, with_bytes_of, IsHeld}, Soundness.{IsSound, SoundBlocks}, World.{World}}
 use Rattle.client_world.proofs.{PlaceLaws.{held-place, place_in-with_byte_of}, SoundWrites.{IsSound-with_byte_of}}
 use Rattle.host_memory.specs.{Holds.{Holds}, Law.{StandsAt}, Layout.{address_of}, View.{MachineView}}
-use Rattle.host_memory.proofs.{ByteLaw.{byte_agrees}, ClientWrites.{write_world, write_holds, write_addresses}, WorldParts.{budget_is}}
+use Rattle.host_memory.proofs.{ClientPlaces.{byte_agrees}, ClientWrites.{write_world, write_holds, write_addresses}, Parts.{budget_is}}
 use Rattle.guest_space.specs.{Machines.{Processor, held_world, IsMachine, HoldsItsWorld}, Transfer.{with_bytes_at, with_places}}
 
 pub machine_of : (k : Processor) (b : List ℕ) → Holds b k.budget → IsSound (held_world k b) →

@@ -9,8 +9,8 @@ use Rattle.client_world.specs.Access.{access, segment_base, places_at, places_fr
 use Rattle.client_world.specs.{Soundness.{IsSound, SoundBlocks}, World.{World}}
 use Rattle.client_world.proofs.SoundWrites.{SoundBlocks-written}
 use Rattle.host_memory.specs.{Holds.{Holds}, Layout.{world_of}, View.{MachineView, OnlyAt}}
-use Rattle.host_memory.proofs.{ClientWrites.{write_world, write_holds, write_addresses, write_host}, OnlyAtLaws.{only_start, only_step}}
-use Rattle.host_memory.proofs.{OnlyAtLaws.{only_then}, WorldParts.{budget_is}}
+use Rattle.host_memory.proofs.{ClientWrites.{write_world, write_holds, write_addresses, write_host}, WorldWalks.{only_start, only_step}}
+use Rattle.host_memory.proofs.{WorldWalks.{only_then}, Parts.{budget_is}}
 use Rattle.guest_space.specs.{Machines.{Processor, held_world}, Transfer.{after_store, with_places, fault_of}}
 use Rattle.guest_space.proofs.{Runs.{all_touch, can_write_run}, Machines.{CanWrite, CanWriteAll, with_place, held_there, can_write_after}}
 use Rattle.guest_space.proofs.Machines.{with_places_none, with_places_short, with_places_first}

@@ -1,12 +1,14 @@
--- What the processor keeps itself is no part of the memory: another value of it changes that part of the world alone, and a sound world
--- stays sound.
-use Rattle.std.proofs.Common.{◌≡◌, ◌≢◌, ℕ, ◌<◌, Bool, List, [], ◌∷◌, slice_set, refl, sym, subst, arith, Option, None, Some}
+-- What the processor keeps itself is no part of the memory: another value of it, as registers changed by a function, changes that part of
+-- the world alone, and a sound world stays sound.
+use Rattle.std.proofs.Common.{◌≡◌, ◌≢◌, ℕ, ◌<◌, Bool, List, [], ◌∷◌, slice_set, refl, sym, subst, arith, None, Some}
 use Rattle.client_world.specs.{declared.registers.Mode.{Mode}, declared.registers.Mode.TheVariants.{Real, Protected}}
 use Rattle.client_world.specs.{declared.registers.Regs.{Regs}, declared.registers.Width.{Width}}
 use Rattle.client_world.specs.{declared.memory_map.TheConstants.{ROM_START}, Soundness.{IsSound, HasSegments}, World.{World}}
 use Rattle.client_world.proofs.SoundWrites.{IsSound-real, IsSound-mode, IsSound-dos, SoundMegabyte-set}
-use Rattle.host_memory.specs.{Layout.{world_of}, Holds.{Holds}}
+use Rattle.host_memory.specs.{Layout.{world_of}, Holds.{Holds}, View.{MachineView}}
 use Rattle.host_memory.proofs.ClientWrites.{dos_world}
+use Rattle.std.specs.declared.option.Option.{Option}
+use Rattle.guest_space.specs.Registers.{with_registers}
 
 -- the registers
 
@@ -65,3 +67,10 @@ pub width_world : (b : List ℕ) (budget : ℕ) (mode : Mode) (regs : Regs) (vif
     world_of b budget mode regs vif other ≡ record (world_of b budget mode regs vif width) { width = other }
 unfolding world_of
 width_world b budget mode regs vif width other = refl
+
+pub changed_regs : (b : List ℕ) (budget : ℕ) (mode : Mode) (regs : Regs) (vif : Bool) (width : Option Width) (f : Regs → Regs)
+    (v : MachineView) →
+    record { world = world_of b budget mode regs vif width; bytes = b } ≡ v →
+    record { world = world_of b budget mode (f regs) vif width; bytes = b } ≡ with_registers (f v.world.regs) v
+unfolding world_of
+changed_regs b budget mode regs vif width f v is = rw (← is) refl

@@ -7,7 +7,7 @@ use Rattle.client_world.specs.World.{World}
 use Rattle.client_world.proofs.PlaceLaws.{length-places_from, places_from-at, place_in-with_byte_of}
 use Rattle.guest_ram.specs.Bytes.{put}
 use Rattle.host_memory.specs.{Layout.{address_of}, View.{MachineView}}
-use Rattle.host_memory.proofs.WalkAnswers.{TouchesAt}
+use Rattle.host_memory.proofs.PlaceEnds.{TouchesAt}
 use Rattle.guest_space.specs.{Machines.{Processor, held_world, IsMachine}, Transfer.{translated, with_bytes_at, with_places}}
 use Rattle.guest_space.proofs.Machines.{CanWrite, CanWriteAll, AllBytes, with_place, written_machine, written_machines, written_addresses}
 use Rattle.guest_space.proofs.{Machines.{can_write_after, with_places_none, with_places_first, with_places_bytes}, Runs.{run_touches}}

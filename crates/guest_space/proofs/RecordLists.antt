@@ -1,15 +1,81 @@
--- A frame that holds some records: what is read from it, and the frame with one record more or one less.
-use Rattle.std.proofs.Common.{◌≡◌, ◌≢◌, ℕ, zero, suc, ◌+◌, ◌-◌, ◌*◌, ◌<◌, ◌≤◌, ◌⊎◌, inl, inr, List, [], ◌∷◌, ◌++◌, length, get_or, take, ap}
-use Rattle.std.proofs.{Common.{◌∙◌, sym, arith, add-zero, zero-add, length-append}, lemmas.Bool.{cases_lt, eq-eqb, ne_eqb}}
+-- A frame that holds some records: what is read from it, and the frame with one record more or one less. Bytes that are the same hold the
+-- same record.
+use Rattle.std.proofs.Common.{◌≡◌, ℕ, ◌+◌, ◌<◌, ◌≤◌, List, get_or, refl, ap, ◌∙◌, sym, arith, add-zero, add_assoc, ◌≢◌, zero, suc, ◌-◌, ◌*◌}
+use Rattle.std.proofs.{Common.{◌⊎◌, inl, inr, [], ◌∷◌, ◌++◌, length, take, zero-add, length-append}, lemmas.Bool.{cases_lt, eq-eqb, ne_eqb}}
 use Rattle.std.proofs.lemmas.List.{length-take-le, get_or_append_left, get_or_at, get_or-take}
+use Rattle.guest_ram.specs.{Bytes.{word_of, dword, put}, Listed.{zeros}}
+use Rattle.guest_ram.proofs.{PutLaws.{same_dword, put_below, put_above, put_within}, ListedLaws.{at_listed, is_listed, length-zeros}}
+use Rattle.guest_ram.proofs.ListedLaws.{at_zeros}
+use Rattle.host_memory.specs.Records.{regs_at, record_at, record_size, record_bytes, record_count, records_from, calls_in, call_kind}
+use Rattle.host_memory.specs.Records.{KeepsRecords}
 use Rattle.client_world.specs.{declared.calls.Call.{Call}, declared.calls.Call.TheVariants.{Int, Far, Iret, Reflect}}
 use Rattle.client_world.specs.{declared.calls.Record.{Record}, declared.calls.Record.TheVariants.{Sim, Back, Exc}}
 use Rattle.client_world.specs.{declared.host_frames.TheConstants.{PAGE_SIZE, RECORD_FRAMES}, declared.limits.TheConstants.{GREATEST_DEPTH}}
-use Rattle.guest_ram.specs.{Bytes.{put}, Listed.{zeros}}
-use Rattle.guest_ram.proofs.{ListedLaws.{at_listed, is_listed, length-zeros, at_zeros}, PutLaws.{put_below, put_above, put_within}}
-use Rattle.host_memory.specs.Records.{record_at, record_bytes, record_size, record_count, records_from, calls_in, call_kind, KeepsRecords}
 use Rattle.host_memory.proofs.ListsClaim.{records_few, length-calls_in}
-use Rattle.guest_space.proofs.RecordRuns.{same_record}
+
+-- n bytes of one list are those of another
+abbrev pub SameRun : List ℕ → List ℕ → ℕ → ℕ → ℕ → Type 0
+SameRun a b p q n = (i : ℕ) → i < n → get_or a (p + i) 0 ≡ get_or b (q + i) 0
+
+run_part : (a b : List ℕ) (p q n k m : ℕ) → SameRun a b p q n → k + m ≤ n → SameRun a b (p + k) (q + k) m
+run_part a b p q n k m same within i small =
+    ap (λ (j : ℕ). get_or a j 0) (add_assoc p k i) ∙ same (k + i) (omega arith) ∙ sym (ap (λ (j : ℕ). get_or b j 0) (add_assoc q k i))
+
+run_byte : (a b : List ℕ) (p q n : ℕ) → SameRun a b p q n → 1 ≤ n → get_or a p 0 ≡ get_or b q 0
+run_byte a b p q n same some = grind (arith, add-zero)
+
+run_word : (a b : List ℕ) (p q n : ℕ) → SameRun a b p q n → 2 ≤ n → word_of a p ≡ word_of b q
+run_word a b p q n same some = grind (arith, run_byte)
+
+run_dword : (a b : List ℕ) (p q n : ℕ) → SameRun a b p q n → 4 ≤ n → dword a p ≡ dword b q
+run_dword a b p q n same some = same_dword a b p q (λ i small. same i (omega arith))
+
+byte_in : (a b : List ℕ) (p q n k : ℕ) → SameRun a b p q n → k + 1 ≤ n → get_or a (p + k) 0 ≡ get_or b (q + k) 0
+byte_in a b p q n k same within = same k (omega arith)
+
+word_in : (a b : List ℕ) (p q n k : ℕ) → SameRun a b p q n → k + 2 ≤ n → word_of a (p + k) ≡ word_of b (q + k)
+word_in a b p q n k same within = run_word a b (p + k) (q + k) 2 (run_part a b p q n k 2 same within) (omega arith)
+
+dword_in : (a b : List ℕ) (p q n k : ℕ) → SameRun a b p q n → k + 4 ≤ n → dword a (p + k) ≡ dword b (q + k)
+dword_in a b p q n k same within = run_dword a b (p + k) (q + k) 4 (run_part a b p q n k 4 same within) (omega arith)
+
+same_regs : (a b : List ℕ) (p q : ℕ) → SameRun a b p q 50 → regs_at a p ≡ regs_at b q
+unfolding regs_at
+same_regs a b p q same =
+    rw (
+      run_dword a b p q 50 same (omega arith),
+      dword_in a b p q 50 4 same (omega arith),
+      dword_in a b p q 50 8 same (omega arith),
+      dword_in a b p q 50 12 same (omega arith),
+      dword_in a b p q 50 16 same (omega arith),
+      dword_in a b p q 50 20 same (omega arith),
+      dword_in a b p q 50 24 same (omega arith),
+      dword_in a b p q 50 28 same (omega arith),
+      dword_in a b p q 50 32 same (omega arith),
+      word_in a b p q 50 36 same (omega arith),
+      word_in a b p q 50 38 same (omega arith),
+      word_in a b p q 50 40 same (omega arith),
+      word_in a b p q 50 42 same (omega arith),
+      word_in a b p q 50 44 same (omega arith),
+      word_in a b p q 50 46 same (omega arith),
+      word_in a b p q 50 48 same (omega arith),
+    ) refl
+
+pub same_record : (a b : List ℕ) (p q : ℕ) → SameRun a b p q record_size → record_at a p ≡ record_at b q
+unfolding record_at
+same_record a b p q same =
+    let at_pointer : SameRun a b (p + 8) (q + 8) 6 = run_part a b p q record_size 8 6 same (omega arith) in
+    rw (
+      run_byte a b p q record_size same (omega arith),
+      byte_in a b p q record_size 1 same (omega arith),
+      byte_in a b p q record_size 2 same (omega arith),
+      dword_in a b p q record_size 4 same (omega arith),
+      dword_in a b p q record_size 8 same (omega arith),
+      word_in a b (p + 8) (q + 8) 6 4 at_pointer (omega arith),
+      same_regs a b (p + 16) (q + 16) (run_part a b p q record_size 16 50 same (omega arith)),
+    ) refl
+
+-- ---- a frame of records
 
 -- the frame holds exactly these records
 pub record IsRecordPart (part : List ℕ) (rs : List Record) : Type 0 where

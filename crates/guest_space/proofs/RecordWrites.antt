@@ -12,12 +12,12 @@ use Rattle.guest_ram.proofs.{ListedLaws.{length-zeros}, PutLaws.{length-put, len
 use Rattle.host_memory.specs.{Holds.{Holds}, Layout.{address_of, records_part, world_of}, Records.{record_at, record_bytes, record_count}}
 use Rattle.host_memory.specs.{Records.{record_size, calls_in}, View.{MachineView, OnlyAt}}
 use Rattle.host_memory.proofs.Parts.{HasParts, HasSize, addresses_of, holds_by, holds_parts, holds_with_records, parts_of, world_by}
-use Rattle.host_memory.proofs.{PutParts.{Records, put_part}, WorldParts.{calls_is}}
+use Rattle.host_memory.proofs.{Parts.{calls_is}, PutParts.{Records, put_part}}
 use Rattle.guest_space.specs.{declared.machine.Machine.TheInside.{Inside}, Machines.{Processor, held_world}, Records.{record_place}}
 use Rattle.guest_space.specs.Records.{with_record, without_record, IsInRow, OnlyAtAndRow}
 use Rattle.guest_space.proofs.{CacheLaws.{put_beside, record_beside}, Insides.{processor_of, view_of, IsWhole, after_call}}
 use Rattle.guest_space.proofs.RecordLists.{IsRecordPart, kind_some, count_of_part, part_of_keeps, calls_of_part, keeps_of_part, one_more}
-use Rattle.guest_space.proofs.{RecordLists.{one_less, counted}, RecordRuns.{same_record}, SoundLists.{IsSound-calls}}
+use Rattle.guest_space.proofs.{RecordLists.{one_less, counted, same_record}, SoundLists.{IsSound-calls}}
 
 length-records_part : (b : List ℕ) (budget : ℕ) → HasSize b budget → length (records_part b) ≡ PAGE_SIZE * RECORD_FRAMES
 length-records_part b budget size = length-region b (PAGE_SIZE * RECORDS) (PAGE_SIZE * RECORD_FRAMES) (omega (arith, size))

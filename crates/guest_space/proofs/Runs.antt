@@ -11,11 +11,11 @@ use Rattle.client_world.specs.{Access.{first_forbidden}, World.{World, MemoryBlo
 use Rattle.client_world.proofs.PlaceLaws.{length-places_from, places_from-at, first_forbidden-none, first_forbidden-none_where_allowed}
 use Rattle.client_world.proofs.SoundWrites.{length-bytes_of, at_bytes_of}
 use Rattle.page_tables.specs.Walk.{walked}
-use Rattle.page_tables.proofs.PageRuns.{same_run, run_linear}
+use Rattle.page_tables.proofs.MapLaws.{same_run, run_linear}
 use Rattle.guest_ram.specs.Bytes.{region}
 use Rattle.guest_ram.proofs.PutLaws.{length-region, at_region}
 use Rattle.host_memory.specs.{Law.{walk_result}, View.{MachineView}}
-use Rattle.host_memory.proofs.{WalkAnswers.{TouchesAt, told_ends, told_fails, told_may}, WalkLaw.{walk_agrees}}
+use Rattle.host_memory.proofs.{PlaceEnds.{TouchesAt, told_ends, told_fails, told_may}, WalkLaw.{walk_agrees}}
 use Rattle.guest_space.specs.{Transfer.{translated, linear_access, bytes_at, fault_of}, Machines.{Processor, IsMachine}}
 use Rattle.guest_space.proofs.Machines.{sound_blocks, stands_there, CanWriteAll}
 

@@ -9,13 +9,13 @@ use Rattle.guest_ram.specs.Bytes.{word_of}
 use Rattle.guest_ram.proofs.ListedLaws.{at_listed}
 use Rattle.host_memory.specs.{Layout.{vectors_part}, Vectors.{callback_at, callbacks_in, callbacks_start, exception_vectors_in}}
 use Rattle.host_memory.specs.{Vectors.{exceptions_start, interrupt_vectors_in, pageable_in, pageable_start, pointer_at}, View.{MachineView}}
-use Rattle.host_memory.proofs.{PartBytes.{part_byte, part_dword, part_word}, VectorParts.{same_parts}, VectorWrites.{ChangesVectors}}
-use Rattle.host_memory.proofs.VectorWrites.{callback_changes, exception_changes, interrupt_changes, pageable_changes, with_callback}
-use Rattle.host_memory.proofs.{VectorWrites.{with_pageable, with_vector, with_vectors}, WorldParts.{callbacks_is, exception_vectors_is}}
-use Rattle.host_memory.proofs.WorldParts.{interrupt_vectors_is, pageable_is}
+use Rattle.host_memory.proofs.Parts.{part_byte, part_dword, part_word, callbacks_is, exception_vectors_is, interrupt_vectors_is}
+use Rattle.host_memory.proofs.{Parts.{pageable_is}, VectorParts.{same_parts}, VectorWrites.{ChangesVectors, callback_changes}}
+use Rattle.host_memory.proofs.VectorWrites.{exception_changes, interrupt_changes, pageable_changes, with_callback, with_pageable}
+use Rattle.host_memory.proofs.VectorWrites.{with_vector, with_vectors}
 use Rattle.guest_space.specs.{Machines.{Processor, held_world}, VectorLists.{callback_of_slot, is_pageable, vector_at}}
 use Rattle.guest_space.specs.declared.machine.Machine.TheInside.{Inside}
-use Rattle.guest_space.proofs.{BlockViews.{IsView}, Insides.{processor_of, view_of, IsWhole, IsAfter, after_call}}
+use Rattle.guest_space.proofs.{BlockCalls.{IsView}, Insides.{processor_of, view_of, IsWhole, IsAfter, after_call}}
 use Rattle.guest_space.proofs.SoundLists.{IsSound-callbacks, IsSound-vectors}
 
 -- ---- reading

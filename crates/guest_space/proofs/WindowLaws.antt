@@ -9,8 +9,8 @@ use Rattle.guest_space.specs.{SegmentRows.{is_big}, Machines.{HoldsItsWorld, IsM
 use Rattle.guest_space.specs.{Transfer.{read_result, translated}, Windows.{IsCodeRun, IsWindow}}
 use Rattle.guest_ram.specs.Bytes.{region}
 use Rattle.guest_ram.proofs.PutLaws.{length-region}
-use Rattle.guest_space.proofs.{Accesses.{loaded_linear}, Codes.{whole_code}, KeptAccess.{SameAccess, same_then}, MachineLaws.{machine_all}}
-use Rattle.guest_space.proofs.{Parts.{segment_part}, Runs.{run_inside, run_loaded, run_touches}, WriteRuns.{translated_same}}
+use Rattle.guest_space.proofs.{Accesses.{loaded_linear, segment_part}, Codes.{whole_code}, MemoryAlone.{SameAccess, same_then}}
+use Rattle.guest_space.proofs.{MachineLaws.{machine_all}, Runs.{run_inside, run_loaded, run_touches}, WriteRuns.{translated_same}}
 use Rattle.guest_space.proofs.{WriteRuns.{translated_where}, Writes.{same_written}}
 use Rattle.host_memory.specs.{Layout.{address_of}, View.{MachineView}}
 

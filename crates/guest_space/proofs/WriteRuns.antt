@@ -1,19 +1,22 @@
--- Runs of bytes in one page: their parts are runs, a write leaves them runs, and writes to them have no fault.
+-- Runs of bytes in one page: their parts are runs and are read as such, a write leaves them runs, and writes to them have no fault.
 use Rattle.std.proofs.Common.{◌≡◌, ℕ, suc, ◌+◌, ◌-◌, ◌%◌, ◌<◌, ◌≤◌, ◌^◌, Bool, true, List, [], ◌∷◌, length, slice_index_or, ap, ◌∙◌, sym}
-use Rattle.std.proofs.{Common.{subst, arith, None, Ok}, lemmas.Bool.Decides.{nat_tests}, lemmas.List.{get_or_default}}
+use Rattle.std.proofs.{Common.{subst, arith, None, Ok, false, refl}, lemmas.Bool.Decides.{nat_tests}, lemmas.List.{get_or_default}}
 use Rattle.std.specs.List.{AllWithin}
-use Rattle.client_world.specs.{declared.place.Place.{Place}, declared.place.Place.TheVariants.{Nothing}, declared.segments.SegReg.{SegReg}}
-use Rattle.client_world.specs.{Access.{place_in, linear, segment_base, places_from}, World.{World}}
-use Rattle.guest_ram.specs.Bytes.{put}
+use Rattle.client_world.specs.{declared.place.Place.{Place}, declared.place.Place.TheVariants.{Nothing, Dos, Block, Host}}
+use Rattle.client_world.specs.{declared.segments.SegReg.{SegReg}, Access.{place_in, linear, segment_base, places_from, may_touch}}
+use Rattle.client_world.specs.{World.{World}, declared.registers.Mode.{Mode}, declared.registers.Mode.TheVariants.{Real, Protected}}
+use Rattle.client_world.specs.{declared.registers.Regs.{Regs}, Segments.{selector}, Selector.{Row}}
+use Rattle.guest_ram.specs.Bytes.{put, region}
 use Rattle.host_memory.specs.{Layout.{address_of}, View.{MachineView}}
-use Rattle.host_memory.proofs.WalkAnswers.{TouchesAt}
+use Rattle.host_memory.proofs.PlaceEnds.{TouchesAt}
 use Rattle.guest_space.specs.{declared.pending.Write.{Write}, Machines.{Processor, held_world, IsMachine}, Pending.{byte_count}}
 use Rattle.guest_space.specs.{Pending.{number_bytes, write_fault, after_write, first_write_fault}, Transfer.{translated, access_fault}}
-use Rattle.guest_space.specs.{Transfer.{after_store, with_places}, WriteRuns.{LiesIn, IsRun, AreRuns}}
-use Rattle.guest_space.proofs.{Accesses.{refusal_linear, stored_linear}, KeptAccess.{SameAccess, same_places}, Machines.{AllBytes}}
-use Rattle.guest_space.proofs.Machines.{CanWrite, CanWriteAll, with_place, can_write_after, with_places_none, with_places_short}
-use Rattle.guest_space.proofs.{Machines.{with_places_first, written_machine, written_addresses}, Parts.{segment_part}, Puts.{store_is}}
-use Rattle.guest_space.proofs.{Runs.{run_all, run_inside, run_touches, no_fault, can_write_run}, Writes.{first_none, first_later}}
+use Rattle.guest_space.specs.{Transfer.{after_store, with_places, read_result}, WriteRuns.{LiesIn, IsRun, AreRuns}}
+use Rattle.guest_space.proofs.Accesses.{refusal_linear, stored_linear, loaded_linear, segment_part, protected_read}
+use Rattle.guest_space.proofs.{MemoryAlone.{SameAccess, same_places}, Machines.{AllBytes, CanWrite, CanWriteAll, with_place}}
+use Rattle.guest_space.proofs.Machines.{can_write_after, with_places_none, with_places_short, with_places_first, written_machine}
+use Rattle.guest_space.proofs.{Machines.{written_addresses}, Puts.{store_is}, Runs.{run_all, run_inside, run_touches, no_fault}}
+use Rattle.guest_space.proofs.{Runs.{can_write_run, run_loaded}, Writes.{first_none, first_later}}
 
 -- one more write in a span that may have grown
 pub span_grows : (seg : SegReg) (low high least most : ℕ) (xs : List Write) (i : ℕ) (e : Write) → i < length xs →
@@ -152,3 +155,44 @@ pub written_by_bytes : (v new : MachineView) (x : Write) (n : ℕ) (bytes : List
     new ≡ after_store v x.seg x.off n bytes → new ≡ after_write v x
 unfolding after_write
 written_by_bytes v new x n bytes count is e = grind arith
+
+-- what may be written may be read
+base_for_read : (mode : Mode) (r : Regs) (rows : List Row) (seg : SegReg) (offset n base : ℕ) →
+    segment_base mode r rows seg offset n true ≡ Ok base →
+    segment_base mode r rows seg offset n false ≡ Ok base
+unfolding segment_base
+base_for_read Real r rows seg offset n base e = e
+base_for_read Protected r rows seg offset n base e = protected_read rows seg (selector r seg) offset n base e
+
+pub place_for_read : (p : Place) → may_touch p true ≡ true → may_touch p false ≡ true
+place_for_read (Dos at) e = refl
+place_for_read (Block number at) e = refl
+place_for_read Host e = absurd cc
+place_for_read Nothing e = absurd cc
+
+touches_for_read : (b : List ℕ) (place : Place) (p : ℕ) → TouchesAt b place true p → TouchesAt b place false p
+touches_for_read b place p touches = record { may = place_for_read place touches.may; address = touches.address }
+
+read_of_run : (k : Processor) (v : MachineView) (seg : SegReg) (low n at : ℕ) → IsMachine k v → IsRun v seg low n at → 0 < n →
+    read_result v.world seg low n ≡ Ok (region v.bytes at n)
+read_of_run k v seg low n at machine run some =
+    let lin = linear (run.base + low) in
+    let room = run.room in
+    let none : linear (lin + 0) ≡ lin = omega arith in
+    let first : at + 0 ≡ at = omega arith in
+    let touches : TouchesAt v.bytes (place_in v.world.blocks (linear (lin + 0))) true (at + 0) =
+    run_touches k v lin 0 n at true machine (omega arith) room some run.ends in
+    let ends : translated v lin false ≡ Ok at =
+    ap (λ (a : ℕ). translated v a false) (sym none)
+    ∙ translated_where v (linear (lin + 0)) false (at + 0)
+    (touches_for_read v.bytes (place_in v.world.blocks (linear (lin + 0))) (at + 0) touches)
+    ∙ ap (λ (a : ℕ). Ok a) first in
+    sym (run_loaded k v lin n at machine (omega arith) room some ends
+    ∙ loaded_linear v.world seg low n run.base (base_for_read v.world.mode v.world.regs v.world.descriptors seg low n run.base run.allowed))
+
+-- a part of a run, as it is read
+pub part_is_read : (k : Processor) (v : MachineView) (seg : SegReg) (low n at i m : ℕ) → IsMachine k v → IsRun v seg low n at →
+    i + m ≤ n → 0 < m →
+    read_result v.world seg (low + i) m ≡ Ok (region v.bytes (at + i) m)
+part_is_read k v seg low n at i m machine run within some =
+    read_of_run k v seg (low + i) m (at + i) machine (part_of_run k v seg low n at i m machine run within some) some

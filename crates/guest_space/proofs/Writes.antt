@@ -1,12 +1,19 @@
--- Writes one after another: a write changes no refusal of the others, so what is left of them leads to the same end.
+-- Writes one after another: a write changes no refusal of the others, so what is left of them leads to the same end; and they change the
+-- bytes of their places alone.
 use Rattle.std.proofs.Common.{◌≡◌, ◌≢◌, ℕ, ◌+◌, ◌<◌, ◌≤◌, true, false, List, [], ◌∷◌, length, drop, slice_index_or, refl, ap, ◌∙◌, sym}
-use Rattle.std.proofs.{Common.{arith, None, Some, Result, Ok, Err}, lemmas.List.{drop_all}, Math.Seq.{drop-cons}}
+use Rattle.std.proofs.{Common.{arith, None, Some, Result, Ok, Err, suc, Bool, subst}, lemmas.List.{drop_all}, Math.Seq.{drop-cons}}
 use Rattle.std.specs.{Prelude.{nat_eq, OnOk, IfErr, MatchResult}, Result.{result_err}, declared.option.Option.{Option}}
-use Rattle.client_world.specs.{declared.faults.Fault.{Fault}, World.{World}}
-use Rattle.host_memory.specs.View.{MachineView}
+use Rattle.client_world.specs.{declared.faults.Fault.{Fault}, World.{World}, declared.place.Place.{Place}}
+use Rattle.client_world.specs.{declared.place.Place.TheVariants.{Nothing}, declared.registers.Mode.{Mode}, declared.registers.Regs.{Regs}}
+use Rattle.client_world.specs.{declared.registers.Width.{Width}, Access.{access}, Soundness.{IsSound}}
+use Rattle.host_memory.specs.{View.{MachineView, OnlyAt}, Holds.{Holds}, Layout.{world_of}}
 use Rattle.guest_space.specs.{declared.pending.Write.{Write}, Pending.{byte_count, number_bytes, write_fault, after_write}}
-use Rattle.guest_space.specs.{Pending.{first_write_fault, after_writes}, Transfer.{access_fault, after_store}}
-use Rattle.guest_space.proofs.KeptAccess.{SameAccess, same_stored, refusal_same}
+use Rattle.guest_space.specs.{Pending.{first_write_fault, after_writes, places_of_writes}, Transfer.{access_fault, after_store}}
+use Rattle.guest_space.specs.{Transfer.{places_of_access, with_places}, Machines.{Processor}}
+use Rattle.guest_space.proofs.{MemoryAlone.{SameAccess, same_stored, refusal_same, near_kept}, Machines.{CanWrite, CanWriteAll, with_place}}
+use Rattle.guest_space.proofs.Machines.{can_write_after, with_places_none, with_places_short, with_places_first}
+use Rattle.guest_space.proofs.OnlyWritten.{HoldsBlocks, byte_holds, only_places, write_places}
+use Rattle.host_memory.proofs.{WorldWalks.{only_start, only_then}, Parts.{budget_is}}
 
 -- the fault of a write, by its probe
 pub fault_of_probe : (o : Option Fault) (r : Result (Unit {0}) Fault) → MatchResult r (λ _. o ≡ None) (λ fault. o ≡ Some fault) →
@@ -135,3 +142,71 @@ left_written v new w xs i d within e left = grind (arith, all_first, left_from)
 
 pub none_left : (v w : MachineView) (xs : List Write) (i : ℕ) → length xs ≤ i → after_writes v (drop i xs) ≡ w → v ≡ w
 none_left v w xs i done left = sym (ap (after_writes v) (drop_all i xs done) ∙ all_none v) ∙ left
+
+-- ---- what they change
+
+places_hold : (k : Processor) (v : MachineView) (places : List Place) (bytes : List ℕ) → HoldsBlocks k v → CanWriteAll v.world places →
+    HoldsBlocks k (with_places v places bytes)
+places_hold k v [] bytes h can = subst (HoldsBlocks k) (sym (with_places_none v bytes)) h
+places_hold k v (p ∷ places) [] h can = subst (HoldsBlocks k) (sym (with_places_short v (p ∷ places))) h
+places_hold k v (p ∷ places) (x ∷ bytes) h can =
+    let first : CanWrite v.world p = can 0 (omega arith) in
+    subst (HoldsBlocks k) (sym (with_places_first v p places x bytes))
+    (places_hold k (with_place v p x) places bytes (byte_holds k v p x h first)
+    (λ i within. can_write_after v.world p (slice_index_or places i Nothing) x (can (suc i) (omega arith))))
+
+-- one write
+record IsOne (k : Processor) (v u : MachineView) (places : List Place) : Type 0 where
+  pub only : OnlyAt places v.bytes u.bytes
+  pub holds : HoldsBlocks k u
+
+one_where : (k : Processor) (v : MachineView) (r : Result (List Place) Fault) (bytes : List ℕ) → HoldsBlocks k v →
+    ((places : List Place) → r ≡ Ok places → CanWriteAll v.world places) →
+    IsOne k v (with_places v (places_of_access r) bytes) (places_of_access r)
+one_where k v (Ok places) bytes h can =
+    record { only = only_places k v places bytes h (can places refl); holds = places_hold k v places bytes h (can places refl) }
+one_where k v (Err f) bytes h can = record {
+  only = only_places k v [] bytes h (λ i within. absurd (omega arith));
+  holds = places_hold k v [] bytes h (λ i within. absurd (omega arith));
+}
+
+one_written : (k : Processor) (v : MachineView) (x : Write) → HoldsBlocks k v →
+    IsOne k v (after_write v x) (places_of_access (access v.world x.seg x.off (byte_count x.width) true))
+unfolding after_write after_store
+one_written k v x h =
+    one_where k v (access v.world x.seg x.off (byte_count x.width) true) (number_bytes x.width x.value) h
+    (write_places v.world x.seg x.off (byte_count x.width))
+
+-- the others' places are the same after it
+pub access_kept : (v : MachineView) (x y : Write) →
+    access (after_write v x).world y.seg y.off (byte_count y.width) true ≡ access v.world y.seg y.off (byte_count y.width) true
+unfolding after_write after_store
+access_kept v x y = grind (arith, near_kept)
+
+pub places_kept : (v : MachineView) (x : Write) (ys : List Write) →
+    places_of_writes (after_write v x).world ys ≡ places_of_writes v.world ys
+places_kept v x [] = refl
+places_kept v x (y ∷ ys) = rw (access_kept v x y, places_kept v x ys) refl
+
+only_all : (k : Processor) (v : MachineView) (xs : List Write) → HoldsBlocks k v →
+    OnlyAt (places_of_writes v.world xs) v.bytes (after_writes v xs).bytes
+only_all k v [] h = subst (λ (u : MachineView). OnlyAt [] v.bytes u.bytes) (sym (all_none v)) (only_start [] v.bytes)
+only_all k v (x ∷ xs) h =
+    let one = one_written k v x h in
+    subst (λ (u : MachineView). OnlyAt (places_of_writes v.world (x ∷ xs)) v.bytes u.bytes) (sym (all_first v x xs))
+    (only_then (places_of_access (access v.world x.seg x.off (byte_count x.width) true)) (places_of_writes v.world xs) v.bytes
+    (after_write v x).bytes
+    (after_writes (after_write v x) xs).bytes one.only
+    (subst (λ (places : List Place). OnlyAt places (after_write v x).bytes (after_writes (after_write v x) xs).bytes) (places_kept v x xs)
+    (only_all k (after_write v x) xs one.holds)))
+
+pub only_writes : (b : List ℕ) (budget : ℕ) (mode : Mode) (regs : Regs) (vif : Bool) (width : Option Width) → Holds b budget →
+    IsSound (world_of b budget mode regs vif width) → (writes : List Write) →
+    OnlyAt (places_of_writes (world_of b budget mode regs vif width) writes) b
+    (after_writes (record { world = world_of b budget mode regs vif width; bytes = b }) writes).bytes
+only_writes b budget mode regs vif width holds sound writes =
+    let k : Processor = record { budget = budget; mode = mode; regs = regs; vif = vif; width = width } in
+    let w = world_of b budget mode regs vif width in
+    let v : MachineView = record { world = w; bytes = b } in
+    let blocks = sound.blocks in
+    only_all k v writes (record { holds = holds; is = refl; blocks = rw (budget_is b budget mode regs vif width) at blocks })

@@ -11,14 +11,14 @@ use Rattle.client_world.specs.{declared.host_frames.TheConstants.{DESCRIPTOR_ROW
 use Rattle.client_world.specs.Selector.{selector_of}
 use Rattle.guest_ram.specs.{Bytes.{dword, dword_bytes, region, word_of}, Listed.{zeros}}
 use Rattle.guest_ram.proofs.{PutLaws.{length-region, at_region}, ListedLaws.{at_zeros}}
-use Rattle.page_tables.proofs.BlankTables.{dword_zero}
+use Rattle.page_tables.proofs.HostDirectory.{dword_zero}
 use Rattle.desc_table.specs.Rows.{row_at, row_bytes}
 use Rattle.desc_table.proofs.RowLaws.{same_row, row_at-row_bytes}
 use Rattle.host_memory.specs.{declared.blank.TheConstants.{VECTOR_HALVES}, DosList.{entry_bytes, entry_size}, Filling.{vector_half_at}}
 use Rattle.host_memory.specs.Layout.{tables_part, rows_part, vectors_part, records_part, handles_part, locks_part, arena_part, taken_part}
 use Rattle.host_memory.specs.{Layout.{entry_of, pages_of, lock_of}, Vectors.{pointer_at, vector_bytes, callback_at, callback_bytes}}
 use Rattle.host_memory.specs.Vectors.{callbacks_start, head_start, head_end}
-use Rattle.host_memory.proofs.{Filling.{dword_is}, FreshMemory.{IsBlank, whole_arena}}
+use Rattle.host_memory.proofs.FreshMemory.{dword_is, IsBlank, whole_arena}
 
 -- a part in which all bytes are zero reads as zero everywhere
 zero_part : (b : List ℕ) (from n : ℕ) → from + n ≤ length b → ((at : ℕ) → from ≤ at → at < from + n → slice_index b at ≡ 0) →

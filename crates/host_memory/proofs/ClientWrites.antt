@@ -9,13 +9,13 @@ use Rattle.client_world.specs.{declared.memory_map.TheConstants.{ROM_START}, Acc
 use Rattle.client_world.specs.{Soundness.{SoundBlocks}, World.{MemoryBlock}}
 use Rattle.guest_ram.specs.Bytes.{put}
 use Rattle.guest_ram.proofs.PutLaws.{length-region}
-use Rattle.page_tables.proofs.FreeWrites.{dword_set_other}
+use Rattle.page_tables.proofs.FreeFrames.{dword_set_other}
 use Rattle.host_memory.specs.Layout.{world_of, address_of, dos_part, handles_part, tables_part, locks_part, budget_part, taken_part}
 use Rattle.host_memory.specs.{Layout.{first_page_of, blocks_in}, Holds.{Holds}, Tables.{IsIdle, next_frame}}
 use Rattle.host_memory.proofs.Parts.{HasParts, addresses_of, holds_by, holds_parts, holds_with_dos, holds_with_frames, own_parts, parts_of}
-use Rattle.host_memory.proofs.{Parts.{world_by}, PutParts.{Dos, Frames, put_part}, BlockRows.{HasRanges}, BlockBytes.{IsBlockByte}}
-use Rattle.host_memory.proofs.{BlockBytes.{spot_small, blocks_written}, ByteLaw.{spot, block_spot}, IdleFrames.{spot_away}}
-use Rattle.host_memory.proofs.ClientPlaces.{IsWritable, writable, ranges_of, address_dos, address_outside}
+use Rattle.host_memory.proofs.{Parts.{world_by}, PutParts.{Dos, Frames, put_part}, BlockRows.{HasRanges}, ClientPlaces.{IsBlockByte}}
+use Rattle.host_memory.proofs.ClientPlaces.{spot_small, blocks_written, spot, block_spot, spot_away, IsWritable, writable, ranges_of}
+use Rattle.host_memory.proofs.ClientPlaces.{address_dos, address_outside}
 
 -- a run of bytes in the megabyte
 

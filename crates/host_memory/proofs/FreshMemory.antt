@@ -1,23 +1,59 @@
 -- The writes of a new memory, one after the other, and what they leave: its tables, its megabyte, the list of free frames, and zeros
 -- elsewhere.
-use Rattle.std.proofs.Common.{◌≡◌, ℕ, ◌+◌, ◌-◌, ◌*◌, ◌/◌, ◌%◌, ◌<◌, ◌≤◌, ◌⊎◌, inl, inr, zero, suc, List, length, slice_index, nat_eq}
-use Rattle.std.proofs.{Common.{if◌then◌else◌, refl, ap, ◌∙◌, sym, arith, zero-add}, lemmas.Bool.{cases_lt, lt-ltb, le-ltb}}
-use Rattle.std.proofs.lemmas.Grind.{same_number_lists}
+use Rattle.std.proofs.Common.{◌≡◌, ℕ, ◌+◌, ◌*◌, ◌<◌, ◌≤◌, inl, inr, List, length, slice_index, refl, ap, ◌∙◌, sym, arith, below_more}
+use Rattle.std.proofs.{Common.{add_assoc, zero-add, ◌-◌, ◌/◌, ◌%◌, ◌⊎◌, zero, suc, nat_eq, if◌then◌else◌}, lemmas.Bool.{cases_lt, lt-ltb}}
+use Rattle.std.proofs.{lemmas.Bool.{le-ltb}, lemmas.Grind.{same_number_lists}}
+use Rattle.guest_ram.specs.{Bytes.{dword, dword_bytes, put, region}, Listed.{listed, copies}, declared.ram.TheConstants.{FRAME_SIZE}}
+use Rattle.guest_ram.proofs.PutLaws.{dword_back, length-put, put_away, put_within, same_dword, put_below, put_above, length-region}
+use Rattle.guest_ram.proofs.{PutLaws.{at_region, same_region, region-put}, ListedLaws.{length-listed, at_listed, length-copies, at_copies}}
+use Rattle.host_memory.specs.{Filling.{Written, real_vector_at, vector_half_at}, declared.blank.TheConstants.{VECTOR_HALVES}}
+use Rattle.host_memory.specs.{Blank.{plain_byte, vector_byte, blank_megabyte}, DosList.{entry_bytes, entry_size}, Headers.{dos_header}}
+use Rattle.host_memory.specs.{Layout.{dos_part}, Tables.{directory_entry_at, low_entry_at, window_entry_at}}
 use Rattle.client_world.specs.{declared.dos_memory.DosEntry.{DosEntry}, declared.dos_memory.DosState.TheVariants.{Free}}
 use Rattle.client_world.specs.declared.host_frames.TheConstants.{PAGE_SIZE, PAGE_DIRECTORY, LOW_TABLE, WINDOW_TABLE, BLOCK_TABLES, VECTORS}
 use Rattle.client_world.specs.declared.host_frames.TheConstants.{DOS_LIST, BUDGET_FRAMES, PAGE_ENTRY_SIZE, TABLE_ENTRIES}
 use Rattle.client_world.specs.declared.limits.TheConstants.{INTERRUPT_VECTORS, MAX_PAGES}
 use Rattle.client_world.specs.declared.memory_map.TheConstants.{PARAGRAPH_SIZE, DOS_SIZE, VECTOR_TABLE_SIZE, ROM_START, ROM_BYTE}
 use Rattle.client_world.specs.declared.memory_map.TheConstants.{ARENA_START, ARENA_END}
-use Rattle.guest_ram.specs.{Bytes.{put, region, dword, dword_bytes}, Listed.{listed, copies}, declared.ram.TheConstants.{FRAME_SIZE}}
 use Rattle.page_tables.specs.{FreeList.{HasFreeList}, declared.budget.TheConstants.{FREE_LIST_HEAD}}
-use Rattle.page_tables.proofs.FreeWrites.{same_free_list}
-use Rattle.guest_ram.proofs.PutLaws.{length-put, put_below, put_above, put_within, put_away, length-region, at_region, same_region}
-use Rattle.guest_ram.proofs.{PutLaws.{region-put, same_dword}, ListedLaws.{length-listed, at_listed, length-copies, at_copies}}
-use Rattle.host_memory.specs.{declared.blank.TheConstants.{VECTOR_HALVES}, Blank.{plain_byte, vector_byte, blank_megabyte}}
-use Rattle.host_memory.specs.{DosList.{entry_bytes, entry_size}, Filling.{Written, real_vector_at, vector_half_at}, Headers.{dos_header}}
-use Rattle.host_memory.specs.{Layout.{dos_part}, Tables.{directory_entry_at, low_entry_at, window_entry_at}}
-use Rattle.host_memory.proofs.Filling.{written_dword}
+use Rattle.page_tables.proofs.FreeFrames.{same_free_list}
+
+pub none_written : (f : ℕ → ℕ) (from : ℕ) (b : List ℕ) → Written f from 0 b b
+none_written f from b = record { size = refl; each = λ k at none small. absurd (omega arith); others = λ at away. refl }
+
+pub one_written : (f : ℕ → ℕ) (from k v place : ℕ) (b c : List ℕ) → Written f from k b c → place ≡ from + 4 * k →
+    place + 4 ≤ length c → v ≡ f k → Written f from (k + 1) b (put c place (dword_bytes v))
+one_written f from k v place b c w at_place room e = record {
+  size = length-put c place (dword_bytes v) ∙ w.size;
+  each = each;
+  others = λ at away. elim away [
+    | inl below ↦ put_away c place (dword_bytes v) at (inr (omega arith)) ∙ w.others at (inl below)
+    | inr above ↦ put_away c place (dword_bytes v) at (inl (omega arith)) ∙ w.others at (inr (omega arith))
+  ];
+}
+  where
+    here : (at : ℕ) → at < 4 → slice_index (put c place (dword_bytes v)) (from + (4 * k + at)) ≡ slice_index (dword_bytes (f k)) at
+    here at small =
+        put_within c place (dword_bytes v) at (from + (4 * k + at)) room small (omega arith)
+        ∙ ap (λ (x : ℕ). slice_index (dword_bytes x) at) e
+
+    each : (j at : ℕ) → j < k + 1 → at < 4 → slice_index (put c place (dword_bytes v)) (from + (4 * j + at))
+        ≡ slice_index (dword_bytes (f j)) at
+    each j at within small =
+        below_more (λ (i : ℕ). slice_index (put c place (dword_bytes v)) (from + (4 * i + at)) ≡ slice_index (dword_bytes (f i)) at) k
+        (λ i below. put_away c place (dword_bytes v) (from + (4 * i + at)) (inr (omega arith)) ∙ w.each i at below small)
+        (here at small) j within
+
+-- four bytes that are a doubleword's are that doubleword
+pub dword_is : (b : List ℕ) (p v : ℕ) → ((at : ℕ) → at < 4 → slice_index b (p + at) ≡ slice_index (dword_bytes v) at) → dword b p ≡ v
+dword_is b p v h =
+    same_dword b (dword_bytes v) p 0 (λ at small. h at small ∙ ap (λ (k : ℕ). slice_index (dword_bytes v) k) (sym (zero-add at)))
+    ∙ dword_back v
+
+-- a table that was written holds each doubleword
+pub written_dword : (f : ℕ → ℕ) (from count k : ℕ) (b c : List ℕ) → Written f from count b c → k < count → dword c (from + 4 * k) ≡ f k
+written_dword f from count k b c w small = dword_is c (from + 4 * k) (f k) (λ at within.
+    ap (λ (p : ℕ). slice_index c p) (add_assoc from (4 * k) at) ∙ w.each k at small within)
 
 -- the one entry of DOS memory
 abbrev pub whole_arena : DosEntry

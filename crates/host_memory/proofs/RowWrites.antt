@@ -11,8 +11,8 @@ use Rattle.guest_ram.proofs.PutLaws.{put_within, put_away, length-region}
 use Rattle.desc_table.specs.Rows.{row_at, row_bytes, rows_from, rows_start, row_address, IsFreeRun, IsFirstFreeRun}
 use Rattle.desc_table.proofs.RowLaws.{length-row_bytes, row_at-put, row_at-put_away, rows_from-put, rows_from-region, at_rows_from}
 use Rattle.host_memory.specs.{Layout.{world_of, rows_part}, Holds.{Holds, KeepsRows}}
-use Rattle.host_memory.proofs.{Parts.{HasParts, holds_by, holds_parts, holds_with_rows, own_parts, parts_of, world_by}, PutParts.{Rows}}
-use Rattle.host_memory.proofs.{PutParts.{put_part}, WorldParts.{descriptors_is}}
+use Rattle.host_memory.proofs.Parts.{HasParts, holds_by, holds_parts, holds_with_rows, own_parts, parts_of, world_by, descriptors_is}
+use Rattle.host_memory.proofs.PutParts.{Rows, put_part}
 
 length-rows_part : (b : List ℕ) (budget : ℕ) → Holds b budget → length (rows_part b) ≡ DESCRIPTOR_ROW_SIZE * DESCRIPTORS
 length-rows_part b budget holds =

@@ -13,10 +13,10 @@ use Rattle.page_tables.specs.{Entry.{page_entry}, Walk.{walked, walk_end}, decla
 use Rattle.host_memory.specs.{Holds.{Holds}, Law.{walk_result}, Layout.{world_of, fixed_part, tables_part, handles_part, locks_part}}
 use Rattle.host_memory.specs.{Layout.{taken_part, budget_part, base_of, pages_of, first_page_of, blocks_in}, Tables.{HasFixedEntries}}
 use Rattle.host_memory.specs.Tables.{HasBlockEntries, IsOutside}
-use Rattle.host_memory.proofs.{BlockRows.{HasRanges, InRow, InBlock, InNoBlock, over_tells, ranges}, EntryEnds.{ends_in_page}}
-use Rattle.host_memory.proofs.EntryEnds.{reads_in_page, forbids_write, finds_no_page, forbids_client, finds_no_host_page}
-use Rattle.host_memory.proofs.{FixedWalks.{low_walk, window_walk, region_walk, no_walk}, PlaceEnds.{told_dos, told_read, told_rom_write}}
-use Rattle.host_memory.proofs.{PlaceEnds.{told_block, told_host, told_nothing}, WorldParts.{blocks_is}}
+use Rattle.host_memory.proofs.{BlockRows.{HasRanges, InRow, InBlock, InNoBlock, over_tells, ranges}, PlaceEnds.{ends_in_page}}
+use Rattle.host_memory.proofs.PlaceEnds.{reads_in_page, forbids_write, finds_no_page, forbids_client, finds_no_host_page, told_dos}
+use Rattle.host_memory.proofs.{PlaceEnds.{told_read, told_rom_write, told_block, told_host, told_nothing}, HostTables.{low_walk}}
+use Rattle.host_memory.proofs.{HostTables.{window_walk, region_walk, no_walk}, Parts.{blocks_is}}
 
 -- an access ends at the place that is there
 pub to_place : (b : List ℕ) (blocks : List (Option MemoryBlock)) (lin : ℕ) (write : Bool) (place : Place) → place_in blocks lin ≡ place →

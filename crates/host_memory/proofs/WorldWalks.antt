@@ -1,25 +1,40 @@
 -- A memory that holds a sound world, said with no decoding, is walked as the world says: the law, from the bytes that the world asks for.
-use Rattle.std.proofs.Common.{◌≡◌, ℕ, zero, suc, ◌+◌, ◌-◌, ◌*◌, ◌/◌, ◌%◌, ◌<◌, ◌≤◌, ◌^◌, ◌⊎◌, inl, inr, Bool, true, List, length}
-use Rattle.std.proofs.{Common.{slice_index, Some, Ok, refl, ap, ◌∙◌, sym, arith}, lemmas.List.{get_or_past}, lemmas.Bool.{le-leb, lt-ltb}}
+-- First bytes that are written one after the other, each at its place: only these places change.
+use Rattle.std.proofs.Common.{◌≡◌, ℕ, ◌*◌, ◌<◌, ◌≤◌, List, ◌++◌, length, slice_index, slice_index_or, slice_set, refl, arith, length-set}
+use Rattle.std.proofs.Common.{get_or-set_other, zero, suc, ◌+◌, ◌-◌, ◌/◌, ◌%◌, ◌^◌, ◌⊎◌, inl, inr, Bool, true, Some, Ok, ap, ◌∙◌, sym}
+use Rattle.std.proofs.{lemmas.List.{length-append, get_or-append-add, get_or_append_left, get_or_past}, lemmas.Bool.{le-leb, lt-ltb}}
 use Rattle.std.proofs.lemmas.Bool.{cases_lt, ltb-true, leb-true, and_parts, and_from, false≢true}
+use Rattle.client_world.specs.{declared.place.Place.{Place}, declared.place.Place.TheVariants.{Nothing, Dos, Block}}
+use Rattle.client_world.specs.declared.host_frames.TheConstants.{PAGE_SIZE, BUDGET_FRAMES, PAGE_DIRECTORY, LOW_TABLE, WINDOW_TABLE}
+use Rattle.client_world.specs.declared.host_frames.TheConstants.{BLOCK_ROWS, FIXED_TABLE_FRAMES, BLOCK_ROW_FRAMES, BLOCK_ROW_SIZE}
+use Rattle.client_world.specs.{declared.host_frames.TheConstants.{PAGE_ENTRY_SIZE}, declared.memory_map.TheConstants.{DOS_SIZE}}
+use Rattle.client_world.specs.declared.memory_map.TheConstants.{DOS_VIEW_END, BLOCK_REGION, BLOCK_REGION_END, BLOCK_REGION_PAGES}
+use Rattle.client_world.specs.{declared.limits.TheConstants.{MAX_BLOCKS}, Access.{place_of, dos_address, may_touch, bytes_of_block, covers}}
+use Rattle.client_world.specs.{Soundness.{IsBlock, SoundBlocks}, World.{World, MemoryBlock, block_at, base_of_block}}
+use Rattle.host_memory.specs.{Layout.{address_of, fixed_part, tables_part, handles_part, base_of, entry_of}, View.{OnlyAt}}
+use Rattle.host_memory.specs.HoldsWorld.{HoldsWorld, HoldsTables, HoldsBlocks, IsNoBlocks, block_entry, block_page, frame_place}
+use Rattle.host_memory.specs.{Law.{walk_result, StandsAt}, Tables.{HasFixedEntries, low_table_start, window_table_start}}
 use Rattle.std.specs.declared.option.Option.{Option}
-use Rattle.client_world.specs.{declared.place.Place.TheVariants.{Dos, Block, Nothing}, declared.host_frames.TheConstants.{PAGE_SIZE}}
-use Rattle.client_world.specs.declared.host_frames.TheConstants.{PAGE_DIRECTORY, LOW_TABLE, WINDOW_TABLE, BLOCK_ROWS, FIXED_TABLE_FRAMES}
-use Rattle.client_world.specs.declared.host_frames.TheConstants.{BLOCK_ROW_FRAMES, BLOCK_ROW_SIZE, PAGE_ENTRY_SIZE}
-use Rattle.client_world.specs.{declared.limits.TheConstants.{MAX_BLOCKS}, declared.memory_map.TheConstants.{DOS_SIZE, DOS_VIEW_END}}
-use Rattle.client_world.specs.{declared.memory_map.TheConstants.{BLOCK_REGION, BLOCK_REGION_END, BLOCK_REGION_PAGES}, Access.{place_of}}
-use Rattle.client_world.specs.{Access.{dos_address, may_touch, bytes_of_block, covers}, Soundness.{IsBlock, SoundBlocks}, World.{World}}
-use Rattle.client_world.specs.World.{MemoryBlock, block_at, base_of_block}
 use Rattle.client_world.proofs.PlaceLaws.{place-above, place-block, place-dos, place-gap, place-gap_above_blocks, place-host}
 use Rattle.guest_ram.specs.Bytes.{dword}
 use Rattle.page_tables.specs.{Entry.{page_entry}, Walk.{walked, walk_end}}
-use Rattle.host_memory.specs.HoldsWorld.{HoldsWorld, HoldsTables, HoldsBlocks, IsNoBlocks, block_entry, block_page, frame_place}
-use Rattle.host_memory.specs.{Law.{walk_result, StandsAt}, Layout.{address_of, fixed_part, tables_part, handles_part, base_of, entry_of}}
-use Rattle.host_memory.specs.Tables.{HasFixedEntries, low_table_start, window_table_start}
-use Rattle.host_memory.proofs.{BlockPlaces.{FindsBlock, FindsNothing, search_tells}, ByteLaw.{stands_by, forbidden}}
-use Rattle.host_memory.proofs.{EntryEnds.{ends_in_page, finds_no_page}, FixedWalks.{block_table, region_walk}, PartBytes.{part_dword}}
-use Rattle.host_memory.proofs.{PlaceEnds.{block_address_is, told_nothing}, TablesClaim.{entry_is}, WalkAnswers.{told_may}}
-use Rattle.host_memory.proofs.WalkLaw.{to_place, low_law, high_law}
+use Rattle.host_memory.proofs.{BlockPlaces.{FindsBlock, FindsNothing, search_tells}, ClientPlaces.{stands_by, forbidden}}
+use Rattle.host_memory.proofs.{PlaceEnds.{ends_in_page, finds_no_page, block_address_is, told_nothing, told_may}, HostTables.{block_table}}
+use Rattle.host_memory.proofs.{HostTables.{region_walk}, Parts.{part_dword}, BlocksClaim.{entry_is}, WalkLaw.{to_place, low_law, high_law}}
+
+-- nothing is written yet
+pub only_start : (places : List Place) (b : List ℕ) → OnlyAt places b b
+only_start places b = record { size = refl; addresses = λ p. refl; others = λ k h. refl; host = λ k from to. refl }
+
+-- one more byte, at one of the places
+pub only_step : (places : List Place) (old b c : List ℕ) (p : Place) (i v : ℕ) → OnlyAt places old b → c ≡ slice_set b (address_of b p) v →
+    i < length places → slice_index_or places i Nothing ≡ p → ((q : Place) → address_of c q ≡ address_of b q) →
+    ((k : ℕ) → DOS_SIZE ≤ k → k < PAGE_SIZE * BUDGET_FRAMES → slice_index c k ≡ slice_index b k) → OnlyAt places old c
+only_step places old b c p i v only e inside is addresses host = grind (arith, get_or-set_other, length-set)
+
+-- two runs of writes are one
+pub only_then : (first second : List Place) (b c d : List ℕ) → OnlyAt first b c → OnlyAt second c d → OnlyAt (first ++ second) b d
+only_then first second b c d before after = grind (arith, get_or-append-add, get_or_append_left, length-append)
 
 -- an entry of a table after the directory lies in the table's frame
 fixed_entry : (b : List ℕ) (table start page : ℕ) → PAGE_SIZE * table ≡ PAGE_SIZE * PAGE_DIRECTORY + start →

@@ -1,18 +1,27 @@
--- Frames that can be popped, and those that can't.
-use Rattle.std.proofs.Common.{◌≡◌, ◌≤◌, ℕ, List, length, true, false, nat_eq, nat_le, refl, sym, subst, ◌∙◌, ap, Ok, Err}
-use Rattle.std.proofs.lemmas.Bool.{le-leb}
+-- Frames that can be popped, and those that can't. One that is popped in protected mode leaves the virtual interrupt flag.
+use Rattle.std.proofs.Common.{◌≡◌, ◌≤◌, ℕ, List, length, true, false, nat_eq, nat_le, refl, sym, subst, ◌∙◌, ap, Ok, Err, Bool, Option}
+use Rattle.std.proofs.{Common.{None, Some}, lemmas.Bool.{le-leb}}
 use Rattle.std.specs.{Prelude.{is_ok}, declared.result.Result.{Result}}
 use Rattle.client_world.specs.{declared.faults.Event.{Event}, declared.outcome.Exit.{Exit}, declared.outcome.Exit.TheVariants.{BadFrame}}
-use Rattle.client_world.specs.{declared.outcome.Exit.TheVariants.{Deep}, declared.registers.Mode.TheVariants.{Real}, Soundness.{IsSound}}
-use Rattle.client_world.specs.{World.{World, HostWorld, depth}, declared.calls.Record.{Record}}
-use Rattle.client_world.specs.declared.limits.TheConstants.{GREATEST_DEPTH}
-use Rattle.interrupts.proofs.KeptWorlds.{kept_world_popped}
+use Rattle.client_world.specs.{declared.outcome.Exit.TheVariants.{Deep}, declared.registers.Mode.TheVariants.{Real, Protected}}
+use Rattle.client_world.specs.{Soundness.{IsSound}, World.{World, HostWorld, depth}, declared.calls.Record.{Record}}
+use Rattle.client_world.specs.{declared.limits.TheConstants.{GREATEST_DEPTH}, declared.faults.Event.TheVariants.{Fault as fault}}
+use Rattle.client_world.specs.{declared.faults.Fault.{Fault}, declared.registers.Mode.{Mode}, Loading.{transfer_fault}}
+use Rattle.client_world.specs.Registers.{low_half}
+use Rattle.interrupts.proofs.{KeptWorlds.{kept_world_popped}, ReturnPlans.{left, with_cs, with_image, with_ip}, SoundAnswers.{granted_was}}
+use Rattle.interrupts.proofs.SoundAnswers.{holds_of_answer, holds_of_world, return_was}
 use Rattle.translation.specs.SimulatedCall.{reflect}
 use Rattle.dos_calls.specs.Kept.{HasSameStack}
 use Rattle.interrupts.specs.{Delivery.{after_iret, result_of_pop}, RealFrames.{frame_fits}, Worlds.{world_of_result, world_after_iret}}
+use Rattle.interrupts.specs.Worlds.{view_without_bytes}
 use Rattle.host_memory.specs.View.{MachineView}
 use Rattle.host_run.specs.{declared.vectors.TheConstants.{DPMI_INTERRUPT}, Turn.{Outcome, ends, after_exit_call, after_protected_pop}}
 use Rattle.host_run.specs.Turn.{after_protected_call, is_exit_call, is_presence_call, after_default_vector, after_real_vector}
+use Rattle.exec_flow.specs.{FarTransfers.{far_transfer, interrupt_frame_pop}, FlagImages.{with_popped_flags}, Interrupts.{frame_bits}}
+use Rattle.guest_space.specs.Pending.{after_writes, first_write_fault}
+use Rattle.insn_plan.specs.{Act.{Act, Input, Pending, Read, done, unless_fault, value_of}, Plan.{after_commit, after_plan, plan_result}}
+use Rattle.insn_plan.specs.{Plan.{with_state}, Stack.{stack_item}}
+use Rattle.mode_gates.proofs.FarStates.{settled_flag}
 
 same_outcome : (r : Result MachineView Exit) → is_ok (world_of_result r) ≡ is_ok r
 same_outcome (Ok v) = refl
@@ -93,3 +102,60 @@ pub still_popped : ((w : World) → IsSound w → w.mode ≡ Real → is_ok (wor
     is_ok (world_after_iret u) ≡ true
 still_popped fits w u before after real same can =
     fits u after (same.mode ∙ real) ∙ ap frame_fits same.pointer ∙ sym (fits w before real) ∙ can
+
+-- ---- the virtual interrupt flag
+
+-- a plan leaves the flag, where there is one
+abbrev LeavesInterrupts : World → Result Pending Event → Type 0
+LeavesInterrupts w (Ok p) = p.vif ≡ w.vif
+LeavesInterrupts w (Err e) = Unit {0}
+
+by_value : (w : World) (r : Result ℕ Event) (rest : ℕ → Act) → ((v : ℕ) → LeavesInterrupts w (plan_result w (rest v))) →
+    LeavesInterrupts w (elim r [ Ok v ↦ plan_result w (rest v) | Err e ↦ Err e ])
+by_value w (Ok v) rest leaves = leaves v
+by_value w (Err e) rest leaves = tt
+
+read_leaves : (w : World) (input : Input) (rest : ℕ → Act) → ((v : ℕ) → LeavesInterrupts w (plan_result w (rest v))) →
+    LeavesInterrupts w (plan_result w (Read input rest))
+read_leaves w input rest leaves = by_value w (value_of w input) rest leaves
+
+unless_leaves : (w : World) (o : Option Fault) (p : Pending) → p.vif ≡ w.vif → LeavesInterrupts w (plan_result w (unless_fault o (done p)))
+unless_leaves w None p same = same
+unless_leaves w (Some f) p same = tt
+
+transfer_leaves : (w : World) (sel ip : ℕ) (return : Bool) (p : Pending) → p.vif ≡ w.vif →
+    LeavesInterrupts w (plan_result w (far_transfer w sel ip return p))
+unfolding far_transfer
+transfer_leaves w sel ip return p same = unless_leaves w (transfer_fault w sel ip return) _ same
+
+by_mode : (mode : Mode) (popped on : Bool) → mode ≡ Protected → elim mode as (λ _. Bool) [ Real ↦ popped | Protected ↦ on ] ≡ on
+by_mode Real popped on e = absurd cc
+by_mode Protected popped on e = refl
+
+flag_left : (w : World) (bits image : ℕ) → w.mode ≡ Protected → (left w bits image).vif ≡ w.vif
+unfolding with_popped_flags
+flag_left w bits image mode = by_mode w.mode _ w.vif mode
+
+frame_leaves : (w : World) (bits : ℕ) → w.mode ≡ Protected → LeavesInterrupts w (plan_result w (interrupt_frame_pop w bits))
+unfolding interrupt_frame_pop
+frame_leaves w bits mode =
+    read_leaves w (stack_item w bits 0) (with_ip w bits) (λ ip.
+    read_leaves w (stack_item w bits 1) (with_cs w bits ip) (λ cs.
+    read_leaves w (stack_item w bits 2) (with_image w bits ip cs) (λ image.
+    transfer_leaves w (low_half cs) ip true (left w bits image) (flag_left w bits image mode))))
+
+carried_leaves : (v u : MachineView) (r : Result Pending Event) → LeavesInterrupts v.world r → after_plan v r ≡ Ok u →
+    u.world.vif ≡ v.world.vif
+unfolding after_plan
+carried_leaves v u (Ok p) same e = settled_flag v u p same e
+carried_leaves v u (Err f) same e = absurd cc
+
+machine_popped : (v u : MachineView) → v.world.mode ≡ Protected → after_iret v ≡ Ok u → u.world.vif ≡ v.world.vif
+unfolding after_iret
+machine_popped v u mode e = carried_leaves v u _ (frame_leaves v.world (frame_bits v.world) mode) (return_was _ u e)
+
+pub popped_keeps_interrupts : (w u : World) → w.mode ≡ Protected → world_after_iret w ≡ Ok u → u.vif ≡ w.vif
+unfolding world_after_iret
+popped_keeps_interrupts w u mode e =
+    holds_of_world (λ (x : World). x.vif ≡ w.vif) (after_iret (view_without_bytes w)) u
+    (λ v is. machine_popped (view_without_bytes w) v mode is) e

@@ -1,19 +1,12 @@
-pub mod Answered
-mod AskedCalls
-pub mod ClientChanges
-mod HandedExceptions
+pub mod Runs
+mod Services
+pub mod Touches
+mod HandOver
 mod Frames
 pub mod Growth
-mod HandOver
-mod KindModes
-pub mod Nested
 mod NoTraps
-mod PoppedInterrupts
+pub mod Nested
 mod RealCalls
-pub mod Runs
-mod RefusedFunctions
-mod Services
-mod Touches
 mod TrapBytes
 pub mod WindowStarts
 pub mod OtherTurns

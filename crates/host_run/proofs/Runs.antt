@@ -1,9 +1,10 @@
--- Turns after an exit change nothing.
+-- Turns after an exit change nothing; and what a turn answers, by the exit that there is after it.
 use Rattle.std.proofs.Common.{arith, ◌≡◌, ◌≤◌, ◌<◌, ◌+◌, ◌-◌, ℕ, None, Some, zero, suc, refl, sym, ◌∙◌, ap, subst, add-zero, add-suc}
-use Rattle.std.proofs.Common.{add-one}
-use Rattle.std.specs.{Prelude.{IsSome}, declared.option.Option.{Option}}
+use Rattle.std.proofs.Common.{add-one, Ok, Err}
+use Rattle.std.specs.{Prelude.{IsSome, IfErr, OnOk}, declared.option.Option.{Option}, declared.result.Result.{Result}}
 use Rattle.client_world.specs.{declared.outcome.Exit.{Exit}, World.{HostWorld}}
-use Rattle.host_run.specs.{Turn.{turn}, Run.{turns, run, with_bound_exit}}
+use Rattle.host_run.specs.{Turn.{turn}, Run.{turns, run, with_bound_exit}, Footprint.{Footprint}, MakesTurn.{MakesTurn, turn_answer}}
+use Rattle.host_run.specs.View.{HostView}
 
 turn_stops : (w : HostWorld) (e : Exit) → w.exit ≡ Some e → turn w ≡ w
 unfolding turn
@@ -53,3 +54,14 @@ pub run_ended : (w new : HostWorld) (n i : ℕ) → new ≡ turns w (i + 1) → 
 run_ended w new n i is lt some =
     let there : IsSome (turns w (i + 1)).exit = subst (λ (v : HostWorld). IsSome v.exit) is some in
     ap with_bound_exit (is ∙ sym (turns_stay w (i + 1) n (omega arith) there))
+
+answer_is : (r : Result (Unit {0}) Exit) (o : Option Exit) → OnOk r (o ≡ None) → IfErr r (λ exit. o ≡ Some exit) → r ≡ turn_answer o
+answer_is (Ok tt) o on ends = sym (ap turn_answer on)
+answer_is (Err exit) o on ends = sym (ap turn_answer ends)
+
+-- so a turn that promises what turns do answers by its exit
+pub by_exit : {W : Type 0} (old new : HostView) (r : Result (Unit {0}) Exit) (reached next : W) (changes : Footprint) →
+    MakesTurn old new r reached next changes → MakesTurn old new (turn_answer new.world.exit) reached next changes
+by_exit old new r reached next changes made =
+    subst (λ (x : Result (Unit {0}) Exit). MakesTurn old new x reached next changes)
+    (answer_is r new.world.exit made.goes_on made.ends) made

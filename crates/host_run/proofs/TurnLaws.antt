@@ -12,12 +12,12 @@ use Rattle.client_world.specs.{declared.trace.TraceLine.{TraceLine}, Registers.{
 use Rattle.client_world.specs.{Segments.{null_pointer}, Services.{Served, es_di, is_set}, Soundness.{IsSound}, World.{World, HostWorld}}
 use Rattle.client_world.proofs.SoundWrites.{IsSound-regs}
 use Rattle.callbacks.specs.{Callbacks.{enter_callback, leave_callback}, HandOver.{IsCallbackPopped}}
-use Rattle.callbacks.proofs.{KeptWorld.{enter_pushes, leave_pops}, SoundEntries.{sound_enter, sound_leave}}
+use Rattle.callbacks.proofs.{Started.{enter_pushes, leave_pops}, SoundEntries.{sound_enter, sound_leave}}
 use Rattle.dos_calls.specs.{Calls.{CallResult, dos_call}, Multiplex.{multiplex_call}}
 use Rattle.dos_calls.proofs.SoundCalls.{IsGood, call_keeps, multiplex_keeps}
 use Rattle.interrupts.specs.Worlds.{world_step, world_interrupt, world_delivery, world_after_iret}
 use Rattle.interrupts.proofs.KeptWorlds.{kept_world_delivery, kept_world_interrupt, kept_world_popped, kept_world_step}
-use Rattle.interrupts.proofs.{RealFrameLaws.{popped_where_it_fits}, SoundAnswers.{sound_world_delivery, sound_world_interrupt}}
+use Rattle.interrupts.proofs.{ReturnPlans.{popped_where_it_fits}, SoundAnswers.{sound_world_delivery, sound_world_interrupt}}
 use Rattle.interrupts.proofs.SoundAnswers.{sound_world_popped, sound_world_step}
 use Rattle.guest_ram.specs.Bytes.{AreBytes}
 use Rattle.service_rows.specs.Rows.{with_carry}
@@ -28,8 +28,8 @@ use Rattle.mode_gates.proofs.SwitchLaws.{sound_to_real, to_protected_switches, t
 use Rattle.mode_stack.specs.Stack.{top}
 use Rattle.fault_service.specs.{Return.{exit_of_record}, Worlds.{world_exception_return, world_protected_delivery}}
 use Rattle.translation.specs.{SimulatedCall.{begin_call, end_call, is_reflection, reflect}, HandOver.{IsPopped}}
-use Rattle.translation.proofs.{Begun.{refused_world}, SoundCalls.{sound_begin, sound_reflect}, SoundReturns.{sound_end}}
-use Rattle.translation.proofs.Stacked.{begin_pushes, end_pops, reflect_pushes}
+use Rattle.translation.proofs.{Begun.{refused_world}, SoundCalls.{sound_begin, sound_reflect, sound_end}, KeptWorld.{begin_pushes}}
+use Rattle.translation.proofs.KeptWorld.{end_pops, reflect_pushes}
 use Rattle.host_run.specs.declared.vectors.TheConstants.{DOS_INTERRUPT, DPMI_INTERRUPT, MULTIPLEX_INTERRUPT, TERMINATE_INTERRUPT}
 use Rattle.host_run.specs.{declared.traps.Trap.{Trap}, declared.traps.Trap.TheVariants.{RealVector, Entry, ToProtected, RealState}}
 use Rattle.host_run.specs.declared.traps.Trap.TheVariants.{CallReturn, Callback, ProtectedVector, ExceptionHandler, ToReal, ProtectedState}
@@ -44,15 +44,15 @@ use Rattle.host_run.specs.Turn.{after_presence_call, after_int31, after_protecte
 use Rattle.host_run.specs.Turn.{enter_line, after_protected_delivery, exception_number, leave_line, after_exception_return, after_callback}
 use Rattle.host_run.specs.Turn.{callback_slot, after_callback_return, after_exception_in_mode, after_interrupt, after_step}
 use Rattle.host_run.specs.Turn.{after_next_instruction, after_trap, work, with_turn_counted, after_outcome, turn}
-use Rattle.host_run.proofs.{AskedCalls.{plain_call}, Frames.{still_popped}, Growth.{work_grows}, Services.{calls_service, sound_service}}
-use Rattle.host_run.proofs.{KindModes.{Suits, trap_suits}, PoppedInterrupts.{popped_keeps_interrupts}, RealCalls.{innermost_of}}
+use Rattle.host_run.proofs.{Services.{plain_call, calls_service, sound_service}, Frames.{still_popped, popped_keeps_interrupts}}
+use Rattle.host_run.proofs.{Growth.{work_grows}, NoTraps.{Suits, trap_suits}, RealCalls.{innermost_of}}
 use Rattle.client_world.specs.declared.calls.What.TheVariants as whats
 use Rattle.client_world.specs.declared.faults.Event.TheVariants as events
 use Rattle.client_world.specs.declared.outcome.Exit.TheVariants as exits
 use Rattle.client_world.specs.declared.services.DosDone.TheVariants as done
 use Rattle.client_world.specs.declared.trace.TraceLine.TheVariants as lines
 use Rattle.dos_calls.proofs.LeftCalls as left
-use Rattle.fault_service.proofs.WorldLaws as faults
+use Rattle.fault_service.proofs.RoundTrip as faults
 
 -- a host whose machine is sound and whose keys are bytes
 pub record IsReached (h : HostWorld) : Type 0 where

@@ -1,11 +1,14 @@
--- The answers of decode, and the two laws of the grammar.
+-- The answers of decode, and the laws of the grammar; code bytes that agree in the bytes of an instruction.
 use Rattle.std.proofs.Common.{◌≡◌, ℕ, zero, suc, ◌-◌, ◌<◌, ◌≤◌, Bool, List, [], ◌∷◌, ◌++◌, length, take, get_or, Ok, Err, refl, sym, ap}
-use Rattle.std.proofs.{Common.{subst, ◌∙◌, append_assoc, arith, length-append, ◌⊎◌, inl, inr}, lemmas.List.{append-nil, take_at}}
+use Rattle.std.proofs.Common.{subst, ◌∙◌, append_assoc, arith, length-append, ◌⊎◌, inl, inr, ◌*◌, ◌/◌, ◌%◌, ◌^◌, drop, lit<}
+use Rattle.std.proofs.{lemmas.List.{append-nil, take_at, take-append-drop, length-take-le}, Math.Arith.{mod-mul}, Math.Nat.{mul-div_cancel}}
+use Rattle.std.proofs.{Math.Nat.{mul-mod_left}, lemmas.Nat.{div-mul-add, mod-mul-add, mod_below}}
 use Rattle.insn_forms.specs.{declared.insn.Insn.{Insn}, Grammar.{AllBytes, Encoding, HasEncoding, BeginsEncoding}}
 use Rattle.insn_decode.specs.{declared.decoding.Decoded.TheVariants.{Whole, More, Invalid}, Reading.{Read, head_at, insn_at}}
 use Rattle.insn_decode.specs.Decode.{answer_of, decoded}
 use Rattle.insn_decode.proofs.{LawfulReaders.{ok_is, ok_not_err, bytes_append}, InsnReaders.{insn_reads}, Encodings.{to_readers}}
 use Rattle.insn_decode.proofs.Encodings.{from_readers}
+use Rattle.client_world.specs.{declared.code.CodeWords.{CodeWords}, CodeWords.{code_bytes}}
 use Rattle.insn_decode.specs.declared.stop.Stop.TheVariants as stops
 
 -- a list of bytes, by its places
@@ -151,3 +154,63 @@ pub shorter : (big : Bool) (bytes : List ℕ) (insn : Insn) (rest : List ℕ) �
 shorter big bytes insn rest e =
     let f = (insn_reads big).found bytes insn rest e in
     omega (arith, length-append f.0 rest, ap length f.2)
+
+-- ---- code bytes that agree in the bytes of an instruction
+
+-- ---- numbers that are the same after a shift
+
+shifted : (n k p : ℕ) → 0 < k → 0 < p → n * p % (k * p) ≡ n % k * p
+shifted n k p some more = grind (arith, mod-mul, mul-div_cancel, mul-mod_left)
+
+low_same : (a b k p : ℕ) → 0 < k → 0 < p → a * p % (k * p) ≡ b * p % (k * p) → a % k ≡ b % k
+low_same a b k p some more e =
+    sym (mul-div_cancel (a % k) more)
+    ∙ ap (λ (x : ℕ). x / p) (sym (shifted a k p some more) ∙ e ∙ shifted b k p some more)
+    ∙ mul-div_cancel (b % k) more
+
+-- a byte is one of the low bytes
+digit : (n m c : ℕ) → 0 < m → 0 < c → n % (m * 256 * c) / c % 256 ≡ n / c % 256
+digit n m c some more = grind (arith, div-mul-add, lit<, mod-mul, mod-mul-add, mod_below)
+
+lowest : (n m : ℕ) → 0 < m → n % (m * 256) % 256 ≡ n % 256
+lowest n m some = ap (λ (x : ℕ). x % 256) (mod-mul n some (lit< tt)) ∙ mod-mul-add (n / 256 % m) 256 (n % 256) (mod_below n 256 (lit< tt))
+
+lowest_same : (a b m : ℕ) → 0 < m → a % (m * 256) ≡ b % (m * 256) → a % 256 ≡ b % 256
+lowest_same a b m some e = sym (lowest a m some) ∙ ap (λ (x : ℕ). x % 256) e ∙ lowest b m some
+
+digit_same : (a b m c : ℕ) → 0 < m → 0 < c → a % (m * 256 * c) ≡ b % (m * 256 * c) → a / c % 256 ≡ b / c % 256
+digit_same a b m c some more e = sym (digit a m c some more) ∙ ap (λ (x : ℕ). x / c % 256) e ∙ digit b m c some more
+
+-- ---- code bytes whose first word is the same after a shift agree in those that are left of it
+
+pub same_start : (a b : CodeWords) (len : ℕ) → 0 < len → len ≤ 8 →
+    a.low * 2 ^ (8 * (8 - len)) % 2 ^ 64 ≡ b.low * 2 ^ (8 * (8 - len)) % 2 ^ 64 → take len (code_bytes a) ≡ take len (code_bytes b)
+unfolding code_bytes
+same_start a b zero some few e = absurd (omega (arith, some))
+same_start a b (suc zero) some few e = grind (arith, lit<, low_same, lowest_same)
+same_start a b (suc (suc zero)) some few e = grind (arith, digit_same, lit<, low_same, lowest_same)
+same_start a b (suc (suc (suc zero))) some few e = grind (arith, digit_same, lit<, low_same, lowest_same)
+same_start a b (suc (suc (suc (suc zero)))) some few e = grind (arith, digit_same, lit<, low_same, lowest_same)
+same_start a b (suc (suc (suc (suc (suc zero))))) some few e = grind (arith, digit_same, lit<, low_same, lowest_same)
+same_start a b (suc (suc (suc (suc (suc (suc zero)))))) some few e = grind (arith, digit_same, lit<, low_same, lowest_same)
+same_start a b (suc (suc (suc (suc (suc (suc (suc zero))))))) some few e = grind (arith, digit_same, lit<, low_same, lowest_same)
+same_start a b (suc (suc (suc (suc (suc (suc (suc (suc zero)))))))) some few e = grind (arith, digit_same, lit<, low_same, lowest_same)
+same_start a b (suc (suc (suc (suc (suc (suc (suc (suc (suc len))))))))) some few e = absurd (omega (arith, few))
+
+below : (n : ℕ) → n % 0x100 < 0x100
+below n = mod_below n 0x100 (lit< tt)
+
+-- each of them is a byte
+pub are_code_bytes : (words : CodeWords) → AllBytes (code_bytes words)
+unfolding code_bytes
+are_code_bytes words = grind (arith, below)
+
+-- bytes that agree in the first ones of others begin with the instruction that those begin with
+pub decoded_start : (big : Bool) (insn : Insn) (len : ℕ) (bytes other : List ℕ) → AllBytes bytes →
+    take len bytes ≡ take len other → decoded big bytes ≡ Whole insn len → decoded big other ≡ Whole insn len
+decoded_start big insn len bytes other are same e =
+    let encoded = decoded_whole big insn len bytes are e in
+    let short : length (take len bytes) ≡ len = length-take-le len bytes encoded.1 in
+    decoded_only big insn (take len bytes) (drop len other) other
+    (sym (take-append-drop len other) ∙ ap (λ (xs : List ℕ). xs ++ drop len other) (sym same)) encoded.0
+    ∙ ap (Whole insn) short

@@ -1,8 +1,6 @@
 pub mod LawfulReaders
-pub mod SizedNumbers
 pub mod WholeNumbers
 pub mod HeadReaders
 pub mod InsnReaders
 pub mod Encodings
 pub mod Answering
-pub mod SameStart

@@ -1,7 +1,30 @@
--- Numbers of one, two and four bytes, read whole.
-use Rattle.std.proofs.Common.{◌≡◌, ℕ, zero, suc, ◌+◌, ◌-◌, ◌*◌, ◌<◌, ◌≤◌, List, [], ◌∷◌, length, get_or, take, drop, Ok, Err, refl, sym, ap}
-use Rattle.std.proofs.{Common.{◌∙◌, arith}, lemmas.List.{take_all, length-drop}}
+-- Numbers of a few bytes, and those of one, two and four, read whole.
+use Rattle.std.proofs.Common.{◌≡◌, ℕ, zero, suc, ◌+◌, ◌-◌, ◌*◌, ◌^◌, ◌<◌, ◌≤◌, refl, arith, List, [], ◌∷◌, length, get_or, take, drop, Ok}
+use Rattle.std.proofs.{Common.{Err, sym, ap, ◌∙◌}, lemmas.List.{take_all, length-drop}}
 use Rattle.insn_decode.specs.{declared.stop.Stop.TheVariants.{More}, Reading.{Read, number_at}}
+
+pub grows : (s o f : ℕ) → (s ≡ 0 → ⊥) → s ≤ 6 → f < 256 → o < 256 ^ (s - 1) → (f + 256 * o < 256 ^ s) × (256 ^ s ≤ 2 ^ 48)
+grows zero o f ne le a b = absurd (ne refl)
+grows (suc zero) o f ne le a b = (omega (arith, a, b), omega arith)
+grows (suc (suc zero)) o f ne le a b = (omega (arith, a, b), omega arith)
+grows (suc (suc (suc zero))) o f ne le a b = (omega (arith, a, b), omega arith)
+grows (suc (suc (suc (suc zero)))) o f ne le a b = (omega (arith, a, b), omega arith)
+grows (suc (suc (suc (suc (suc zero))))) o f ne le a b = (omega (arith, a, b), omega arith)
+grows (suc (suc (suc (suc (suc (suc zero)))))) o f ne le a b = (omega (arith, a, b), omega arith)
+grows (suc (suc (suc (suc (suc (suc (suc n))))))) o f ne le a b = absurd (omega arith)
+
+pub fits_byte : (s v : ℕ) → s ≤ 1 → v < 256 ^ s → v < 256
+fits_byte zero v le lt = omega (arith, lt)
+fits_byte (suc zero) v le lt = omega (arith, lt)
+fits_byte (suc (suc n)) v le lt = absurd (omega arith)
+
+pub fits_word : (s v : ℕ) → s ≤ 4 → v < 256 ^ s → v < 2 ^ 32
+fits_word zero v le lt = omega (arith, lt)
+fits_word (suc zero) v le lt = omega (arith, lt)
+fits_word (suc (suc zero)) v le lt = omega (arith, lt)
+fits_word (suc (suc (suc zero))) v le lt = omega (arith, lt)
+fits_word (suc (suc (suc (suc zero)))) v le lt = omega (arith, lt)
+fits_word (suc (suc (suc (suc (suc n))))) v le lt = absurd (omega arith)
 
 pub too_few : (n : ℕ) (bs : List ℕ) → length bs < n → number_at n bs ≡ Err More
 unfolding number_at

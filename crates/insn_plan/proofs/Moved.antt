@@ -1,16 +1,27 @@
--- EIP has no part in what an instruction reads, in the address of an operand, or in the fault of an access.
-use Rattle.std.proofs.Common.{◌≡◌, ℕ, Bool, false, List, [], ◌∷◌, Ok, Err, None, Some, refl, ap, ◌∙◌}
-use Rattle.std.specs.{declared.option.Option.{Option}, declared.result.Result.{Result}}
-use Rattle.client_world.specs.{declared.faults.Fault.{Fault}, declared.place.Place.{Place}, declared.place.Place.TheVariants.{Dos, Block}}
-use Rattle.client_world.specs.{declared.place.Place.TheVariants.{Host, Nothing}, declared.registers.Mode.{Mode}}
+-- EIP has no part in what an instruction reads, in the address of an operand, or in the fault of an access. An operand that isn't in memory
+-- gives its number.
+use Rattle.std.proofs.Common.{◌≡◌, ℕ, Bool, refl, false, List, [], ◌∷◌, Ok, Err, None, Some, ap, ◌∙◌}
+use Rattle.client_world.specs.{declared.registers.Regs.{Regs}, declared.faults.Fault.{Fault}, declared.place.Place.{Place}}
+use Rattle.client_world.specs.{declared.place.Place.TheVariants.{Dos, Block, Host, Nothing}, declared.registers.Mode.{Mode}}
 use Rattle.client_world.specs.{declared.registers.Mode.TheVariants.{Real, Protected}, declared.segments.SegReg.{SegReg}}
 use Rattle.client_world.specs.{declared.segments.SegReg.TheVariants.{Es, Cs, Ss, Ds, Fs, Gs}, Access.{access, segment_base, real_base}}
 use Rattle.client_world.specs.{Access.{protected_base, places_at, byte_of, bytes_of}, General.{general}, Segments.{selector}, World.{World}}
-use Rattle.guest_space.specs.{Pending.{byte_count}, Transfer.{read_result, bytes_at, access_fault, fault_of}}
 use Rattle.insn_forms.specs.{declared.insn.MemForm.{MemForm}, declared.insn.Operand.{Operand}, declared.insn.Operand.TheVariants.{Empty}}
 use Rattle.insn_forms.specs.declared.insn.Operand.TheVariants.{Reg, Seg, Mem, Imm, Far}
-use Rattle.insn_plan.specs.{Accesses.{with_next_eip}, Act.{Input, Given, From, value_of, number_read}, Operands.{source}}
+use Rattle.insn_plan.specs.{Act.{Given, Input, From, value_of, number_read}, Operands.{given, source}, Accesses.{with_next_eip}}
 use Rattle.insn_plan.specs.Registers.{register, offset_of, address_part}
+use Rattle.std.specs.{declared.option.Option.{Option}, declared.result.Result.{Result}}
+use Rattle.guest_space.specs.{Pending.{byte_count}, Transfer.{read_result, bytes_at, access_fault, fault_of}}
+
+pub source_given : (r : Regs) (addr32 : Bool) (width : ℕ) (operand : Operand) → ((f : MemForm) → operand ≡ Mem f → ⊥) →
+    source r addr32 width operand ≡ Given (given r operand)
+unfolding source
+source_given r addr32 width Empty other = refl
+source_given r addr32 width (Reg own number) other = refl
+source_given r addr32 width (Seg seg) other = refl
+source_given r addr32 width (Mem f) other = absurd (other f refl)
+source_given r addr32 width (Imm v) other = refl
+source_given r addr32 width (Far pointer) other = refl
 
 pub selector_moved : (len : ℕ) (w : World) (seg : SegReg) → selector (with_next_eip len w).regs seg ≡ selector w.regs seg
 selector_moved len w Es = refl

@@ -9,7 +9,7 @@ use Rattle.client_world.specs.{declared.segments.SegReg.TheVariants.{Cs}, Loadin
 use Rattle.client_world.specs.{Soundness.{IsSound}, World.{World}}
 use Rattle.cpu_step.specs.Step.{view_with_next_eip, client_step}
 use Rattle.cpu_step.proofs.{FlowSegments.{code_is_word, frame_leaves}, SegmentWords.{HoldWords, words_of, segments_of, words_pushed}}
-use Rattle.cpu_step.proofs.{SoundSteps.{sound_behind, sound_by_plan, sound_step}, SoundWritten.{sound_all_written, sound_state}}
+use Rattle.cpu_step.proofs.SoundSteps.{sound_behind, sound_by_plan, sound_step, sound_all_written, sound_state}
 use Rattle.exec_flow.specs.{FarTransfers.{code_selector, interrupt_frame_pop}, Interrupts.{frame_bits, interrupt_push}}
 use Rattle.guest_space.specs.Pending.{after_writes, first_write_fault}
 use Rattle.host_memory.specs.View.{MachineView}

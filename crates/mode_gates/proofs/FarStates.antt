@@ -1,5 +1,6 @@
--- A far return at a trap changes registers alone, and no byte; what the entry keeps.
-use Rattle.std.proofs.Common.{◌≡◌, ◌∙◌, ℕ, Bool, true, refl, ap, subst, Option, None, Some, Result, Ok, Err}
+-- A far return at a trap changes registers alone, and no byte, and what it makes of a world doesn't depend on the bytes that hold it; what
+-- the entry keeps.
+use Rattle.std.proofs.Common.{◌≡◌, ◌∙◌, ℕ, Bool, true, refl, ap, subst, Option, None, Some, Result, Ok, Err, sym}
 use Rattle.client_world.specs.{Loading.{transfer_fault}, Registers.{low_half}, declared.faults.Event.{Event}}
 use Rattle.client_world.specs.{declared.faults.Event.TheVariants.{Fault as fault}, declared.faults.Fault.{Fault}}
 use Rattle.client_world.specs.{declared.outcome.Exit.{Exit}, declared.registers.Width.{Width}, Services.{Served}, World.{World}}
@@ -8,9 +9,9 @@ use Rattle.guest_space.specs.Pending.{after_writes, first_write_fault}
 use Rattle.host_memory.specs.View.{MachineView}
 use Rattle.insn_plan.specs.{Act.{Act, Input, Pending, Read, done, unchanged, unless_fault, value_of, with_regs}, Plan.{after_commit}}
 use Rattle.insn_plan.specs.{Plan.{after_plan, plan_result, with_state}, Stack.{regs_after_pops, stack_item}}
-use Rattle.interrupts.specs.Worlds.{view_without_bytes}
-use Rattle.interrupts.proofs.{ReturnPlans.{IsQuiet, quiet_read, quiet_transfer}, ReturnStates.{quiet_state}, SoundAnswers.{granted_was}}
-use Rattle.interrupts.proofs.SoundAnswers.{holds_of_answer, holds_of_world, return_was}
+use Rattle.interrupts.specs.Worlds.{view_without_bytes, world_of_result}
+use Rattle.interrupts.proofs.{ReturnPlans.{IsQuiet, quiet_read, quiet_transfer}, KeptWorlds.{quiet_state}, SoundAnswers.{granted_was}}
+use Rattle.interrupts.proofs.{SoundAnswers.{holds_of_answer, holds_of_world, return_was}, Alone.{pop_alone}}
 use Rattle.mode_gates.specs.{Entry.{after_first_entry, entry, entry_after, entry_answer}, FarFrames.{after_far_return}}
 use Rattle.mode_gates.specs.FarFrames.{world_after_far_return}
 
@@ -122,3 +123,13 @@ kept_after w (Err exit) s other e = absurd cc
 pub kept_entry : (w : World) (s : Served) → entry w ≡ Ok s → KeptByEntry w s.world
 unfolding entry
 kept_entry w s e = kept_after w (world_after_far_return w) s (kept_far w) e
+
+pub far_alone : (v : MachineView) → world_of_result (after_far_return v) ≡ world_after_far_return v.world
+unfolding after_far_return world_after_far_return
+far_alone v = pop_alone v (plan_result v.world (far_frame_pop v.world (frame_bits v.world) 0))
+
+pub far_ok : (v u : MachineView) → after_far_return v ≡ Ok u → world_after_far_return v.world ≡ Ok u.world
+far_ok v u e = sym (far_alone v) ∙ ap world_of_result e
+
+pub far_err : (v : MachineView) (exit : Exit) → after_far_return v ≡ Err exit → world_after_far_return v.world ≡ Err exit
+far_err v exit e = sym (far_alone v) ∙ ap world_of_result e

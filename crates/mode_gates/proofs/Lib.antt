@@ -1,5 +1,3 @@
-pub mod EntryRows
-pub mod FarAlone
-pub mod FarStates
 pub mod SoundGates
+pub mod FarStates
 pub mod SwitchLaws

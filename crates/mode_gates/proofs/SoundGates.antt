@@ -1,28 +1,57 @@
--- A far return at a trap and the entry lead from a sound world to a sound one.
-use Rattle.std.proofs.Common.{◌≡◌, ◌≢◌, ℕ, ◌+◌, ◌/◌, ◌%◌, ◌<◌, ◌≤◌, ◌^◌, true, refl, subst, arith, Option, None, Some, Result, Ok, Err}
+-- A far return at a trap and the entry lead from a sound world to a sound one: the descriptors of the entry may be put, one after another.
+use Rattle.std.proofs.Common.{◌≡◌, ◌≢◌, ℕ, ◌+◌, ◌<◌, ◌≤◌, List, slice_set, ◌∙◌, arith, None, Some, get_or-set_other, ◌/◌, ◌%◌, ◌^◌, true}
+use Rattle.std.proofs.Common.{refl, subst, Option, Result, Ok, Err}
 use Rattle.client_world.specs.{declared.descriptors.Desc.{Desc}, declared.descriptors.Origin.{Origin}}
-use Rattle.client_world.specs.{declared.descriptors.Origin.TheVariants.{Entry, Psp}, declared.host_frames.TheConstants.{DESCRIPTORS}}
-use Rattle.client_world.specs.{declared.host_frames.TheConstants.{FIRST_FREE_DESCRIPTOR}, declared.outcome.Exit.{Exit}}
+use Rattle.client_world.specs.{declared.host_frames.TheConstants.{DESCRIPTORS, FIRST_FREE_DESCRIPTOR}, declared.registers.Width.{Width}}
+use Rattle.client_world.specs.{Descriptor.{FitsDescriptor}, Selector.{Row, row_at_index, selector_of}, Soundness.{IsSound, IsPlainOrigin}}
+use Rattle.client_world.specs.{Soundness.{IsOfDosBlock, HasSegments, SoundMegabyte}, World.{World}}
+use Rattle.client_world.specs.{declared.descriptors.Origin.TheVariants.{Entry, Psp}, declared.outcome.Exit.{Exit}}
 use Rattle.client_world.specs.{declared.registers.Mode.TheVariants.{Protected}, declared.registers.Regs.{Regs}}
-use Rattle.client_world.specs.{declared.registers.Width.{Width}, declared.registers.Width.TheVariants.{Sixteen}}
-use Rattle.client_world.specs.{declared.memory_map.TheConstants.{PSP_SEGMENT}, declared.selectors.TheConstants.{ENTRY_CODE, ENTRY_STACK}}
-use Rattle.client_world.specs.{declared.selectors.TheConstants.{ENTRY_DATA, ENTRY_PSP, ENTRY_ENVIRONMENT}, Descriptor.{FitsDescriptor}}
-use Rattle.client_world.specs.{Selector.{selector_of}, Services.{Served}, Soundness.{IsSound, HasSegments, SoundMegabyte, IsPlainOrigin}}
-use Rattle.client_world.specs.World.{World}
-use Rattle.client_world.proofs.SoundWrites.{IsSound-dos, IsSound-mode, IsSound-regs, SoundMegabyte-set}
+use Rattle.client_world.specs.{declared.registers.Width.TheVariants.{Sixteen}, declared.memory_map.TheConstants.{PSP_SEGMENT}}
+use Rattle.client_world.specs.declared.selectors.TheConstants.{ENTRY_CODE, ENTRY_STACK, ENTRY_DATA, ENTRY_PSP, ENTRY_ENVIRONMENT}
+use Rattle.client_world.specs.Services.{Served}
+use Rattle.client_world.proofs.{SoundRows.{IsSound-row, high_is_clients, none_not_dos, plain_not_dos}, SoundWrites.{IsSound-dos}}
+use Rattle.client_world.proofs.SoundWrites.{IsSound-mode, IsSound-regs, SoundMegabyte-set}
+use Rattle.guest_space.proofs.Entered.{before, no_others, IsSound-width}
+use Rattle.mode_gates.specs.Entry.{host_rows, asked_width, code_of_segment, data_of_segment, after_first_entry, entry, entry_after}
+use Rattle.mode_gates.specs.{Entry.{entry_registers, entry_rows, entry_answer, environment_of, environment_word}, Rows.{AreFreeFrom}}
+use Rattle.mode_gates.specs.FarFrames.{after_far_return, world_after_far_return}
 use Rattle.cpu_step.proofs.{FlowSegments.{far_frame_leaves}, SegmentWords.{words_of}, SoundSteps.{sound_by_plan}}
 use Rattle.exec_flow.specs.{FarTransfers.{far_frame_pop}, Interrupts.{frame_bits}}
 use Rattle.guest_ram.specs.Bytes.{with_word}
-use Rattle.guest_space.proofs.HostRows.{IsSound-width}
 use Rattle.host_memory.specs.View.{MachineView}
 use Rattle.insn_plan.specs.Plan.{plan_result, after_plan}
 use Rattle.interrupts.specs.Worlds.{view_without_bytes}
 use Rattle.interrupts.proofs.SoundAnswers.{holds_of_world, return_was}
 use Rattle.service_rows.specs.Rows.{with_carry, with_row}
-use Rattle.mode_gates.specs.Entry.{asked_width, code_of_segment, data_of_segment, after_first_entry, entry, entry_after, entry_registers}
-use Rattle.mode_gates.specs.{Entry.{entry_rows, entry_answer, environment_of, environment_word, host_rows}, FarFrames.{after_far_return}}
-use Rattle.mode_gates.specs.{FarFrames.{world_after_far_return}, Rows.{AreFreeFrom}}
-use Rattle.mode_gates.proofs.EntryRows.{free_at_first, free_after, may_put}
+
+-- what set_desc asks
+pub record MayPut (w : World) (index : ℕ) (row : Row) : Type 0 where
+  pub old_origin : ¬ IsOfDosBlock (row_at_index w.descriptors index)
+  pub new_origin : ¬ IsOfDosBlock row
+  pub sound : IsSound (record w { descriptors = slice_set w.descriptors index row })
+
+pub may_put : (w : World) (index : ℕ) (d : Desc) (origin : Origin) → IsSound w → w.width ≢ None → FIRST_FREE_DESCRIPTOR ≤ index →
+    index < DESCRIPTORS → FitsDescriptor d → IsPlainOrigin origin → AreFreeFrom w.descriptors index → MayPut w index (Some (d, origin))
+may_put w index d origin s width from to fits plain free =
+    let old = none_not_dos (row_at_index w.descriptors index) (free index (omega arith)) in
+    record {
+      old_origin = old;
+      new_origin = plain_not_dos (Some (d, origin)) plain;
+      sound = IsSound-row w index (Some (d, origin)) s width to fits plain old (high_is_clients index from);
+    }
+
+-- after it all are still free
+pub free_after : (rows : List Row) (index : ℕ) (row : Row) → AreFreeFrom rows index → AreFreeFrom (slice_set rows index row) (index + 1)
+free_after rows index row free = λ other after.
+    let ne : other ≢ index = omega arith in
+    get_or-set_other rows index other row None ne ∙ free other (omega arith)
+
+-- after the host's two all are free
+pub free_at_first : (w : World) (width : Width) → IsSound w → w.width ≡ None →
+    AreFreeFrom (host_rows w.descriptors width) FIRST_FREE_DESCRIPTOR
+free_at_first w width s e = λ index high.
+    no_others w.descriptors width (before w.width w e s.width).descriptors index (omega arith) (omega arith)
 
 -- ---- the return address
 

@@ -56,7 +56,7 @@ fn data_of_segment(segment: u16, limit: u32, width: Width) -> Desc
 }
 
 // Puts a descriptor at the first index from which all are free.
-#[tactic(auto, using(crate::proofs::EntryRows::may_put, crate::proofs::EntryRows::free_after))]
+#[tactic(auto, using(crate::proofs::SoundGates::may_put, crate::proofs::SoundGates::free_after))]
 fn make(m: &mut Machine, index: u16, d: Desc, origin: Origin)
     requires width { m.old.world.width ≢ None }
     requires from { FIRST_FREE_DESCRIPTOR ≤ index }
@@ -73,7 +73,7 @@ fn make(m: &mut Machine, index: u16, d: Desc, origin: Origin)
 }
 
 // Sets the width, and makes the host's two descriptors. After them all are free.
-#[tactic(auto, using(crate::proofs::EntryRows::free_at_first))]
+#[tactic(auto, using(crate::proofs::SoundGates::free_at_first))]
 fn make_host_rows(m: &mut Machine, width: Width)
     requires before { m.old.world.width ≡ None }
     ensures world { m.new.world ≡ record m.old.world {

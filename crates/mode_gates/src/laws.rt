@@ -8,7 +8,7 @@ ghost use Rattle.mode_gates.specs.{Entry.{entry}, FarFrames.{after_far_return, w
 ghost use Rattle.mode_gates.specs.Switches.{world_after_switch_to_protected, world_after_switch_to_real};
 
 /// What a far return at a trap makes of the world depends on the world alone.
-#[tactic(auto, using(crate::proofs::FarAlone::far_alone))]
+#[tactic(auto, using(crate::proofs::FarStates::far_alone))]
 pub fn a_far_return_depends_on_the_world_alone()
     ensures { (v : MachineView) → world_of_result (after_far_return v) ≡ world_after_far_return v.world }
 {}

@@ -1,3 +1,1 @@
-pub mod LastRecord
-pub mod PutRuns
 pub mod Trips

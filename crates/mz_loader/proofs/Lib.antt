@@ -1,4 +1,2 @@
 pub mod Relocating
-pub mod DosBytes
 pub mod SoundStart
-pub mod HeaderWord

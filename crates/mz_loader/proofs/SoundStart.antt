@@ -8,7 +8,7 @@ use Rattle.client_world.specs.{declared.memory_map.TheConstants.{IMAGE_SEGMENT, 
 use Rattle.client_world.specs.{DosMemory.{IsArena}, Soundness.{IsSound, SoundMegabyte}}
 use Rattle.client_world.proofs.SoundWrites.{IsSound-dos, IsSound-regs, SoundMegabyte-set}
 use Rattle.guest_ram.specs.{Bytes.{AreBytes, word_of, put}, Listed.{listed}}
-use Rattle.guest_ram.proofs.{ListedLaws.{length-listed, at_listed}, ByteLists.{bytes_word, more_bytes}, FitLaws.{fits_at}}
+use Rattle.guest_ram.proofs.{ListedLaws.{length-listed, at_listed}, ByteLists.{bytes_word, more_bytes, fits_at}}
 use Rattle.guest_space.specs.Arena.{with_replaced_entries, NoneMade, with_entries}
 use Rattle.guest_space.proofs.ArenaWrites.{IsSound-entries}
 use Rattle.host_memory.specs.{Blank.{blank_arena, blank_world}, Vectors.{word_bytes}}

@@ -24,7 +24,7 @@ pub(crate) const MOST_PARAS: u32 = ARENA_END - PSP_SEGMENT as u32;
 pub(crate) const MOST_BYTES: u32 = PARAGRAPH_SIZE * (MOST_PARAS - PSP_PARAS);
 
 /// The word at an address of the file.
-#[tactic(auto, using(crate::proofs::HeaderWord::little_word))]
+#[tactic(auto, using(crate::proofs::Relocating::little_word))]
 pub(crate) fn word_of(file: &[u8], at: usize) -> u16
     requires { at + 2 ≤ length file.now }
     ensures { result ≡ word_of file.now at }

@@ -9,7 +9,7 @@ use client_world::memory_map::IMAGE_START;
 use guest_space::Machine;
 
 // The byte at an address of the file, 0 past its end.
-#[tactic(auto, using(crate::proofs::DosBytes::past_end))]
+#[tactic(auto, using(crate::proofs::Relocating::past_end))]
 fn byte_of(file: &[u8], at: usize) -> u8
     ensures { result ≡ slice_index file.now at }
 {

@@ -1,12 +1,21 @@
--- The directory of the host is one that `map` and `unmap` may work on.
-use Rattle.std.proofs.Common.{◌≡◌, ◌≢◌, ℕ, ◌+◌, ◌-◌, ◌*◌, ◌/◌, ◌<◌, ◌≤◌, ◌⊎◌, inl, inr, List, length, refl, arith, zero, suc, add-one}
-use Rattle.std.proofs.lemmas.Bool.{cases_eq, cases_lt}
+-- The directory of the host is one that `map` and `unmap` may work on. First zero doublewords, and zero entries of it.
+use Rattle.std.proofs.Common.{◌≡◌, ℕ, ◌+◌, ◌<◌, List, get_or, true, false, refl, arith, add-zero, ◌≢◌, ◌-◌, ◌*◌, ◌/◌, ◌≤◌, ◌⊎◌, inl, inr}
+use Rattle.std.proofs.{Common.{length, zero, suc, add-one}, lemmas.Bool.{cases_eq, cases_lt}}
+use Rattle.guest_ram.specs.Bytes.{dword}
+use Rattle.page_tables.specs.{Mapping.{NamesTable, directory_word, HasTables}, Walk.{frame_of}, declared.entry.TheConstants.{TABLE_SPAN}}
+use Rattle.page_tables.specs.declared.entry.TheConstants.{SUPERVISOR_WRITABLE, USER_WRITABLE}
 use Rattle.client_world.specs.{declared.memory_map.TheConstants.{HOST_WINDOW}, declared.host_frames.TheConstants.{PAGE_SIZE, LOW_TABLE}}
 use Rattle.client_world.specs.declared.host_frames.TheConstants.{WINDOW_TABLE, BLOCK_TABLES, BUDGET_FRAMES, BLOCK_TABLE_FRAMES}
 use Rattle.client_world.specs.declared.host_frames.TheConstants.{DESCRIPTOR_ROWS, PAGE_DIRECTORY, TABLE_ENTRIES}
-use Rattle.page_tables.specs.{Walk.{frame_of}, Mapping.{HasTables, NamesTable, directory_word}, declared.entry.TheConstants.{TABLE_SPAN}}
-use Rattle.page_tables.specs.declared.entry.TheConstants.{SUPERVISOR_WRITABLE, USER_WRITABLE}
-use Rattle.page_tables.proofs.BlankTables.{names_none}
+
+-- four zero bytes are a zero doubleword
+pub dword_zero : (b : List ℕ) (p : ℕ) → ((i : ℕ) → i < 4 → get_or b (p + i) 0 ≡ 0) → dword b p ≡ 0
+unfolding dword
+dword_zero b p h = grind (arith, add-zero)
+
+-- a zero entry names no table
+pub names_none : (b : List ℕ) (i : ℕ) → directory_word b i ≡ 0 → NamesTable b i → ⊥
+names_none b i e named = let absurdly : false ≡ true = rw e at named in cc
 
 -- the index of the directory's entry for the table of the host's window
 abbrev window_index : ℕ

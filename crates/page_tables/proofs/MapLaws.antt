@@ -1,13 +1,92 @@
--- A table entry that is put changes the walk of its page alone.
-use Rattle.std.proofs.Common.{◌≡◌, ◌≢◌, ℕ, ◌+◌, ◌/◌, ◌%◌, ◌<◌, ◌≤◌, ◌^◌, ◌⊎◌, inl, inr, List, length, Bool, true, false, refl, ap, ◌∙◌, sym}
-use Rattle.std.proofs.{Common.{arith}, lemmas.Bool.{cases_lt, cases_eq}}
-use Rattle.client_world.specs.{Registers.{has_bit}, declared.host_frames.TheConstants.{PAGE_SIZE, PAGE_DIRECTORY, TABLE_ENTRIES}}
-use Rattle.guest_ram.specs.Bytes.{put, dword, dword_bytes}
+-- The bits of a page's entry, and where a walk that meets it ends: within a page walks meet the same entries, and an entry that is put
+-- changes the walk of its page alone.
+use Rattle.std.proofs.Common.{◌≡◌, ℕ, Bool, true, false, nat_eq, refl, ap, arith, ◌+◌, ◌*◌, ◌/◌, ◌%◌, ◌<◌, ◌≤◌, ◌^◌, inl, inr, ◌&&◌, ◌||◌}
+use Rattle.std.proofs.{Common.{not, List, Ok, ◌∙◌, sym, ◌≢◌, ◌⊎◌, length}, lemmas.Bool.{cases_Bool, cases_lt, cases_eq}}
+use Rattle.client_world.specs.{Registers.{has_bit}, Access.{linear}, declared.host_frames.TheConstants.{PAGE_SIZE, TABLE_ENTRIES}}
+use Rattle.client_world.specs.declared.host_frames.TheConstants.{PAGE_DIRECTORY}
+use Rattle.page_tables.specs.{Entry.{page_entry, allows}, Walk.{walk_end, fault, frame_of, walked, page_of, entry_place, directory_entry}}
+use Rattle.page_tables.specs.{Walk.{table_entry, table_place}, Mapping.{ended_in_frame, HasTables, IsCovered, IsMapped, IsUnmapped}}
+use Rattle.page_tables.specs.{Mapping.{directory_word, EndsInFrame, EndsNowhere, KeepsOtherPages}, declared.entry.TheConstants.{PRESENT}}
+use Rattle.page_tables.specs.declared.entry.TheConstants.{USER, WRITABLE, TABLE_SPAN}
+use Rattle.guest_ram.specs.Bytes.{dword, put, dword_bytes}
 use Rattle.guest_ram.proofs.PutLaws.{length-put, dword_put, dword_put_other}
-use Rattle.page_tables.specs.{Entry.{page_entry}, Walk.{walked, walk_end, fault, frame_of, page_of, entry_place, directory_entry}}
-use Rattle.page_tables.specs.{Walk.{table_place, table_entry}, Mapping.{HasTables, IsCovered, IsMapped, IsUnmapped, directory_word}}
-use Rattle.page_tables.specs.{Mapping.{EndsInFrame, EndsNowhere, KeepsOtherPages}, declared.entry.TheConstants.{PRESENT, TABLE_SPAN}}
-use Rattle.page_tables.proofs.EntryLaws.{page_entry_present, ended-page_entry, ended-absent}
+
+is_one : (n : ℕ) → n ≡ 1 → nat_eq n 1 ≡ true
+is_one n e = ap (λ (k : ℕ). nat_eq k 1) e
+
+is_zero : (n : ℕ) → n ≡ 0 → nat_eq n 1 ≡ false
+is_zero n e = ap (λ (k : ℕ). nat_eq k 1) e
+
+pub page_entry_present : (frame : ℕ) (writable : Bool) → has_bit (page_entry frame writable) PRESENT ≡ true
+page_entry_present frame true = is_one _ (omega arith)
+page_entry_present frame false = is_one _ (omega arith)
+
+pub page_entry_user : (frame : ℕ) (writable : Bool) → has_bit (page_entry frame writable) USER ≡ true
+page_entry_user frame true = is_one _ (omega arith)
+page_entry_user frame false = is_one _ (omega arith)
+
+pub page_entry_writable : (frame : ℕ) (writable : Bool) → has_bit (page_entry frame writable) WRITABLE ≡ writable
+page_entry_writable frame true = is_one _ (omega arith)
+page_entry_writable frame false = is_zero _ (omega arith)
+
+pub page_entry_frame : (frame : ℕ) (writable : Bool) → frame_of (page_entry frame writable) ≡ frame
+page_entry_frame frame true = omega arith
+page_entry_frame frame false = omega arith
+
+-- an access through a present directory entry and a page's entry
+pub ended-page_entry : (directory frame : ℕ) (writable : Bool) (lin : ℕ) (write : Bool) → has_bit directory PRESENT ≡ true →
+    walk_end directory (page_entry frame writable) lin write ≡ ended_in_frame directory frame writable lin write
+unfolding walk_end ended_in_frame
+ended-page_entry directory frame writable lin write h =
+    grind (arith, page_entry_frame, page_entry_present, page_entry_user, page_entry_writable)
+
+-- and through an entry that is absent
+pub ended-absent : (directory lin : ℕ) (write : Bool) → has_bit directory PRESENT ≡ true → walk_end directory 0 lin write ≡ fault false
+unfolding walk_end
+ended-absent directory lin write h = rw h refl
+
+-- two addresses of one page meet the same entries
+pub same_entries : (b : List ℕ) (root lin other : ℕ) (write : Bool) → page_of other ≡ page_of lin →
+    walked b root other write ≡ walk_end (directory_entry b root lin) (table_entry b root lin) other write
+unfolding walked
+same_entries b root lin other write e = grind arith
+
+-- where a walk ends, and where one ends to another address of that page
+pub record EndsBeside (b : List ℕ) (root lin other p : ℕ) (write : Bool) : Type 0 where
+  pub frame : ℕ
+  pub here : p ≡ PAGE_SIZE * frame + lin % PAGE_SIZE
+  pub there : walked b root other write ≡ Ok (PAGE_SIZE * frame + other % PAGE_SIZE)
+
+record EndedBeside (directory table lin other p : ℕ) (write : Bool) : Type 0 where
+  here : p ≡ PAGE_SIZE * frame_of table + lin % PAGE_SIZE
+  there : walk_end directory table other write ≡ Ok (PAGE_SIZE * frame_of table + other % PAGE_SIZE)
+
+ended_beside : (directory table lin other p : ℕ) (write : Bool) → walk_end directory table lin write ≡ Ok p →
+    EndedBeside directory table lin other p write
+unfolding walk_end
+ended_beside directory table lin other p write e = grind (arith, cases_Bool)
+
+pub same_page : (b : List ℕ) (root lin other p : ℕ) (write : Bool) → page_of other ≡ page_of lin → walked b root lin write ≡ Ok p →
+    EndsBeside b root lin other p write
+same_page b root lin other p write e ends =
+    let beside = ended_beside (directory_entry b root lin) (table_entry b root lin) lin other p write
+    (sym (same_entries b root lin lin write refl) ∙ ends) in grind (arith, same_entries)
+
+-- a run of bytes that does not leave its page
+pub run_page : (lin i n : ℕ) → lin % PAGE_SIZE + n ≤ PAGE_SIZE → i < n → page_of (lin + i) ≡ page_of lin
+run_page lin i n room within = omega arith
+
+-- ends in a run of bytes
+pub same_run : (b : List ℕ) (root lin i n p : ℕ) (write : Bool) → lin % PAGE_SIZE + n ≤ PAGE_SIZE → i < n → walked b root lin write ≡ Ok p →
+    walked b root (lin + i) write ≡ Ok (p + i)
+same_run b root lin i n p write room within ends =
+    let beside = same_page b root lin (lin + i) p write (run_page lin i n room within) ends in
+    let here = beside.here in
+    beside.there ∙ ap (λ (q : ℕ). Ok q) (let e : PAGE_SIZE * beside.frame + (lin + i) % PAGE_SIZE ≡ p + i = omega arith in e)
+
+-- a run of bytes in one page does not turn over at the end of the linear addresses
+pub run_linear : (lin i n : ℕ) → lin < 2 ^ 32 → lin % PAGE_SIZE + n ≤ PAGE_SIZE → i < n → linear (lin + i) ≡ lin + i
+run_linear lin i n small room within = omega arith
 
 -- the bytes with another table entry of a linear address
 abbrev pub with_entry : List ℕ → ℕ → ℕ → List ℕ

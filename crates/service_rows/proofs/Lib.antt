@@ -1,4 +1,3 @@
 pub mod AnswerLaws
-pub mod IndexLaws
 pub mod RunLaws
 pub mod WidthLaws

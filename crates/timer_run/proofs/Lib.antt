@@ -1,4 +1,2 @@
-pub mod Parts
-pub mod RoundLaws
 pub mod RoundParts
-pub mod Runs
+pub mod RoundLaws

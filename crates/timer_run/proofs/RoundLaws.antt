@@ -12,7 +12,7 @@ use Rattle.host_run.proofs.{Sound.{machine_by, outside_by}, TurnLaws.{IsReached,
 use Rattle.timer_run.specs.{declared.timer.TheConstants.{TIMER_INTERRUPT}, Rounds.{TimedWorld, after_part, is_interrupt, round_with_timer}}
 use Rattle.timer_run.specs.Rounds.{rounds, source_of_round, timed_rounds, timed_run, timed_turns, timer_of, touched_by_round}
 use Rattle.timer_run.specs.{Rounds.{with_new_timer}, Timer.{TimerPart, TimerState, timer_part}}
-use Rattle.timer_run.proofs.{Parts.{part_has}, RoundParts.{round_on, round_over}, Runs.{one_more}}
+use Rattle.timer_run.proofs.RoundParts.{part_has, round_on, round_over, one_more}
 use Rattle.watch_run.specs.Turn.{touched_by_watch_turn, turn_with_watchpoints}
 use Rattle.watch_run.proofs.WatchedTurns.{counts, extends, turn_keeps_all}
 

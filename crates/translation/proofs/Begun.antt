@@ -1,15 +1,20 @@
--- A call that isn't refused, a reflection that is made: what was asked holds, and the world after it.
-use Rattle.std.proofs.Common.{◌≡◌, ℕ, ◌<◌, ◌≤◌, Bool, true, false, [], ◌∷◌, length, refl, Option, None, Some, Ok, Err, arith}
-use Rattle.std.proofs.lemmas.Bool.{leb-false, ltb-false, not-false}
-use Rattle.std.specs.Prelude.{nat_le, if◌then◌else◌}
+-- A call that isn't refused, a reflection and a return that are made: what was asked holds, the world after it, and the record that a
+-- return took away.
+use Rattle.std.proofs.Common.{◌≡◌, ℕ, ◌<◌, ◌≤◌, Bool, true, false, [], ◌∷◌, length, refl, Option, None, Some, Ok, Err, arith, ◌-◌, ◌||◌}
+use Rattle.std.proofs.{Common.{not, List, ◌++◌, Result}, lemmas.Bool.{leb-false, ltb-false, not-false, and_parts}}
+use Rattle.std.specs.{Prelude.{nat_le, if◌then◌else◌}, List.{slice_get}}
 use Rattle.client_world.specs.{declared.calls.Call.{Call}, declared.limits.TheConstants.{GREATEST_DEPTH, MAX_CALL_WORDS}}
 use Rattle.client_world.specs.{declared.registers.Regs.{Regs}, declared.services.Carry.TheVariants.{Clear, Set}, Services.{cx, es_di}}
-use Rattle.client_world.specs.World.{World, depth}
+use Rattle.client_world.specs.{World.{World, depth}, declared.calls.Record.{Record}, declared.calls.Record.TheVariants.{Sim, Back, Exc}}
+use Rattle.client_world.specs.{declared.outcome.Exit.{Exit}, declared.segments.FarPtr.{FarPtr}, declared.segments.SegReg.TheVariants.{Cs}}
+use Rattle.client_world.specs.{declared.segments.SegReg.TheVariants.{Ss}, Loading.{is_loadable}}
 use Rattle.service_rows.specs.{declared.refusal.Refusal.{Refusal}, Reasons.{HasOtherAx, first_reason, outcome, service_answer}}
 use Rattle.service_rows.proofs.AnswerLaws.{refused_answer}
 use Rattle.translation.specs.SimulatedCall.{after_reflection, are_readable_words, begin_call, call_regs, call_service, call_words}
-use Rattle.translation.specs.{SimulatedCall.{called_world, has_stack, reflect}, Structure.{has_structure, structure_bytes, structure_flags}}
-use Rattle.translation.specs.Structure.{structure_regs}
+use Rattle.translation.specs.SimulatedCall.{called_world, has_stack, reflect, after_return, end_call, end_of_record, is_reflection}
+use Rattle.translation.specs.Structure.{has_structure, structure_bytes, structure_flags, structure_regs}
+use Rattle.mode_stack.specs.Stack.{top}
+use Rattle.mode_stack.proofs.Trips.{but_last, split_last}
 use Rattle.client_world.specs.declared.outcome.Exit.TheVariants as exits
 
 none_refused : (o : Option Refusal) (w u : World) → (service_answer o w u).carry ≡ Clear → o ≡ None
@@ -79,3 +84,34 @@ made_where false w u n is e = record { room = leb-false GREATEST_DEPTH (depth w)
 pub is_made : (w u : World) (n : ℕ) → reflect w n ≡ Ok u → IsMade w u n
 unfolding reflect
 is_made w u n e = made_where (nat_le GREATEST_DEPTH (depth w)) w u n refl e
+
+pub some_record : (calls : List Record) (r : Record) → slice_get calls (length calls - 1) ≡ Some r → 0 < length calls
+some_record [] r e = absurd cc
+some_record (x ∷ calls) r e = omega arith
+
+-- a return that is made
+pub record IsReturn (w u : World) : Type 0 where
+  pub call : Call
+  pub saved : Regs
+  pub on : Bool
+  pub at : FarPtr
+  pub some : 0 < depth w
+  pub popped : w.calls ≡ but_last w.calls ++ Sim call saved on at ∷ []
+  pub there : (is_reflection call || has_structure w at) ≡ true
+  pub stack : is_loadable w Ss saved.ss 0 false ≡ true
+  pub code : is_loadable w Cs saved.cs saved.eip true ≡ true
+  pub is : u ≡ after_return w call saved on at
+
+pub passed : (b : Bool) (e : Exit) (r : Result World Exit) (u : World) → (if not b then Err e else r) ≡ Ok u → (b ≡ true) × (r ≡ Ok u)
+passed true e r u h = (refl, h)
+passed false e r u h = absurd cc
+
+return_of : (w u : World) (o : Option Record) → top w ≡ o → end_of_record w o ≡ Ok u → IsReturn w u
+return_of w u None is e = absurd cc
+return_of w u (Some (Back slot at)) is e = absurd cc
+return_of w u (Some (Exc number code)) is e = absurd cc
+return_of w u (Some (Sim call saved on at)) is e = grind (arith, and_parts, passed, some_record, split_last)
+
+pub is_return : (w u : World) → end_call w ≡ Ok u → IsReturn w u
+unfolding end_call
+is_return w u e = return_of w u (top w) refl e

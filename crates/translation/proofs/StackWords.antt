@@ -1,14 +1,21 @@
--- Words that were put on a real stack are read there again: different offsets of a segment lie at different bytes of the megabyte.
+-- Words that were put on a real stack are read there again: different offsets of a segment lie at different bytes of the megabyte. One word
+-- more of a stack; and a word can be written exactly where a push of real mode could write it.
 use Rattle.std.proofs.Common.{◌≡◌, ◌≢◌, ℕ, ◌+◌, ◌*◌, ◌%◌, ◌<◌, Bool, true, false, ◌&&◌, not, List, [], ◌∷◌, ◌++◌, length, slice_index}
-use Rattle.std.proofs.Common.{slice_set, refl, ap, ◌∙◌, arith, get_or-set_same, get_or-set_other, length-set}
-use Rattle.std.proofs.{lemmas.Bool.Decides.{nat_tests}, lemmas.Bool.{and_parts}}
-use Rattle.std.specs.Prelude.{nat_eq, nat_lt, if◌then◌else◌}
+use Rattle.std.proofs.Common.{slice_set, refl, ap, ◌∙◌, arith, get_or-set_same, get_or-set_other, length-set, zero, suc, ◌-◌, ◌≤◌, drop}
+use Rattle.std.proofs.{Common.{get_or, append_assoc, drop-cons, add-one, Option}, lemmas.Bool.Decides.{nat_tests}, lemmas.Bool.{and_parts}}
+use Rattle.std.proofs.lemmas.Bool.{le-leb}
+use Rattle.std.specs.{Prelude.{nat_eq, nat_lt, if◌then◌else◌, is_ok, is_none, nat_le}, Int.{w16, from_le_bytes}}
 use Rattle.client_world.specs.{declared.limits.TheConstants.{GREATEST_DEPTH}, declared.memory_map.TheConstants.{DOS_SIZE}}
 use Rattle.client_world.specs.declared.memory_map.TheConstants.{REAL_STACK_SEGMENT, REAL_STACK_SIZE, ROM_START, SEGMENT_SIZE}
-use Rattle.client_world.specs.Access.{real_address}
-use Rattle.guest_space.specs.Dos.{with_dos_byte}
+use Rattle.client_world.specs.{declared.memory_map.TheConstants.{PARAGRAPH_SIZE}, Access.{real_address, access, linear, may_touch}}
+use Rattle.client_world.specs.{Access.{place_in, places_from, segment_base, touched_places}, World.{World, MemoryBlock}}
+use Rattle.client_world.specs.{declared.place.Place.{Place}, declared.place.Place.TheVariants.{Dos}}
+use Rattle.client_world.specs.{declared.registers.Mode.TheVariants.{Real}, declared.segments.SegReg.TheVariants.{Ss}}
+use Rattle.guest_space.specs.{Dos.{with_dos_byte}, Transfer.{access_fault, fault_of}}
 use Rattle.translation.specs.RealStack.{are_writable_words, is_writable_word, next_word, stack_word, stack_words, with_word_at}
-use Rattle.translation.specs.RealStack.{with_words_at}
+use Rattle.translation.specs.{RealStack.{with_words_at}, SimulatedCall.{are_readable_words, client_word, client_words, word_read}}
+use Rattle.guest_ram.specs.Bytes.{word_of}
+use Rattle.client_world.proofs.PlaceLaws.{place-dos}
 
 pub addresses_apart : (segment a b : ℕ) → a % SEGMENT_SIZE ≢ b % SEGMENT_SIZE → real_address segment a ≢ real_address segment b
 addresses_apart segment a b other = λ e. other (omega (arith, e))
@@ -115,3 +122,90 @@ words_back dos segment offset (v ∷ vs) size few can small =
 pub low_word : (offset : ℕ) → offset < GREATEST_DEPTH * REAL_STACK_SIZE → is_writable_word REAL_STACK_SEGMENT offset ≡ true
 unfolding is_writable_word
 low_word offset small = grind (arith, nat_tests)
+
+one_less : (k n : ℕ) → k < n → n - k ≡ suc (n - (k + 1))
+one_less k n h = omega arith
+
+pub writable_step : (segment offset k n : ℕ) → k < n →
+    are_writable_words segment offset (n - k)
+    ≡ (is_writable_word segment offset && are_writable_words segment (next_word offset) (n - (k + 1)))
+writable_step segment offset k n h = ap (are_writable_words segment offset) (one_less k n h)
+
+pub writable_end : (segment offset k n : ℕ) → n ≤ k → are_writable_words segment offset (n - k) ≡ true
+writable_end segment offset k n h = let e : n - k ≡ zero = omega arith in ap (are_writable_words segment offset) e
+
+pub put_step : (dos : List ℕ) (segment offset i : ℕ) (xs : List ℕ) → i < length xs →
+    with_words_at dos segment offset (drop i xs)
+    ≡ with_words_at (with_word_at dos segment offset (get_or xs i 0)) segment (next_word offset) (drop (i + 1) xs)
+put_step dos segment offset i xs h = grind (arith, add-one, drop-cons)
+
+pub readable_step : (w : World) (k n : ℕ) → k < n →
+    are_readable_words w k (n - k) ≡ (is_ok (client_word w k) && are_readable_words w (k + 1) (n - (k + 1)))
+readable_step w k n h = ap (are_readable_words w k) (one_less k n h)
+
+pub readable_end : (w : World) (k n : ℕ) → n ≤ k → are_readable_words w k (n - k) ≡ true
+readable_end w k n h = let e : n - k ≡ zero = omega arith in ap (are_readable_words w k) e
+
+pub words_step : (w : World) (k n : ℕ) → k < n →
+    client_words w k (n - k) ≡ word_read (client_word w k) ∷ client_words w (k + 1) (n - (k + 1))
+words_step w k n h = ap (client_words w k) (one_less k n h)
+
+pub words_end : (w : World) (k n : ℕ) → n ≤ k → client_words w k (n - k) ≡ []
+words_end w k n h = let e : n - k ≡ zero = omega arith in ap (client_words w k) e
+
+pub word_of_two : (bytes : List ℕ) → length bytes ≡ 2 → word_of bytes 0 ≡ from_le_bytes w16 bytes
+word_of_two [] e = absurd (omega (arith, e))
+word_of_two (a ∷ []) e = absurd (omega (arith, e))
+word_of_two (a ∷ b ∷ []) e = omega arith
+word_of_two (a ∷ b ∷ c ∷ bytes) e = absurd (omega (arith, e))
+
+-- one word more that is read
+pub readable_more : (w : World) (k n : ℕ) (all : Bool) → k < n → is_ok (client_word w k) ≡ true → all ≡ are_readable_words w k (n - k) →
+    all ≡ are_readable_words w (k + 1) (n - (k + 1))
+readable_more w k n all h ok e = e ∙ readable_step w k n h ∙ ap (λ (b : Bool). b && are_readable_words w (k + 1) (n - (k + 1))) ok
+
+pub words_more : (w : World) (k n word : ℕ) (before after all : List ℕ) → k < n → word_read (client_word w k) ≡ word →
+    after ≡ before ++ word ∷ [] →
+    before ++ client_words w k (n - k) ≡ all → after ++ client_words w (k + 1) (n - (k + 1)) ≡ all
+words_more w k n word before after all h is pushed e = grind (arith, append_assoc, words_step)
+
+-- ---- the rules of real mode
+
+-- two places, asked one after the other
+two_places : (p q : Place) → is_none (fault_of (touched_places (p ∷ q ∷ []) true)) ≡ (may_touch p true && may_touch q true)
+two_places p q = grind arith
+
+two_from : (blocks : List (Option MemoryBlock)) (at : ℕ) →
+    places_from blocks at 2 ≡ place_in blocks (linear at) ∷ place_in blocks (linear (at + 1)) ∷ []
+unfolding places_from
+two_from blocks at = refl
+
+-- the place of a byte of a real segment
+real_place : (blocks : List (Option MemoryBlock)) (segment offset : ℕ) → segment < 0x10000 → offset < SEGMENT_SIZE →
+    place_in blocks (linear (segment * PARAGRAPH_SIZE + offset)) ≡ Dos (real_address segment offset)
+real_place blocks segment offset small within = grind (arith, place-dos)
+
+word_places : (blocks : List (Option MemoryBlock)) (segment offset : ℕ) → segment < 0x10000 → offset + 1 < SEGMENT_SIZE →
+    places_from blocks (segment * PARAGRAPH_SIZE + offset) 2 ≡ Dos (real_address segment offset) ∷
+    Dos (real_address segment (offset + 1)) ∷ []
+word_places blocks segment offset small within =
+    let next : segment * PARAGRAPH_SIZE + offset + 1 ≡ segment * PARAGRAPH_SIZE + (offset + 1) = omega arith in
+    two_from blocks (segment * PARAGRAPH_SIZE + offset)
+    ∙ ap (λ (p : Place). p ∷ place_in blocks (linear (segment * PARAGRAPH_SIZE + offset + 1)) ∷ [])
+    (real_place blocks segment offset small (omega arith))
+    ∙ ap (λ (a : ℕ). Dos (real_address segment offset) ∷ place_in blocks (linear a) ∷ []) next
+    ∙ ap (λ (p : Place). Dos (real_address segment offset) ∷ p ∷ []) (real_place blocks segment (offset + 1) small within)
+
+before_last : (offset : ℕ) → offset + 1 < SEGMENT_SIZE → not (nat_eq offset 0xFFFF) ≡ true
+before_last offset within = grind (arith, nat_tests)
+
+last : (offset : ℕ) → offset < SEGMENT_SIZE → SEGMENT_SIZE ≤ offset + 1 → not (nat_eq offset 0xFFFF) ≡ false
+last offset small past = grind (arith, nat_tests)
+
+too_far : (offset : ℕ) → SEGMENT_SIZE ≤ offset + 1 → nat_le (offset + 2) SEGMENT_SIZE ≡ false
+too_far offset past = grind (arith, nat_tests)
+
+pub writable_by_rules : (w : World) (offset : ℕ) → w.mode ≡ Real → w.regs.ss < 0x10000 → offset < SEGMENT_SIZE →
+    is_writable_word w.regs.ss offset ≡ is_none (access_fault w Ss offset 2 true)
+unfolding is_writable_word access_fault access segment_base
+writable_by_rules w offset real small within = grind (arith, last, le-leb, before_last, too_far, two_places, word_places)

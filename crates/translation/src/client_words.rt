@@ -22,7 +22,7 @@ fn word_offset(m: &Machine, k: u16) -> u32
 }
 
 // Reads word k.
-#[tactic(auto, using(crate::proofs::Words::word_of_two))]
+#[tactic(auto, using(crate::proofs::StackWords::word_of_two))]
 fn client_word(m: &Machine, k: u16) -> Result<u16, Refusal>
     ensures { MatchResult result (λ word. (is_ok (client_word m.now.world k) ≡ true) × (word_read (client_word m.now.world k) ≡ word))
         (λ refusal. (is_ok (client_word m.now.world k) ≡ false) × (refusal ≡ Refusal.InvalidAddress)) }
@@ -34,8 +34,8 @@ fn client_word(m: &Machine, k: u16) -> Result<u16, Refusal>
 }
 
 /// Adds the client's first n words; each must be one that can be read.
-#[tactic(auto, using(crate::proofs::Words::readable_step, crate::proofs::Words::readable_end, crate::proofs::Words::words_step, //
-crate::proofs::Words::words_end))]
+#[tactic(auto, using(crate::proofs::StackWords::readable_step, crate::proofs::StackWords::readable_end, //
+crate::proofs::StackWords::words_step, crate::proofs::StackWords::words_end))]
 pub(crate) fn add_client_words(
     m: &Machine,
     words: &mut ArrayVec<u16, MOST_WORDS>,

@@ -40,7 +40,7 @@ fn is_writable_word(segment: u16, offset: u32) -> bool
 }
 
 /// Asks that n words can be written from there on.
-#[tactic(auto, using(crate::proofs::Words::writable_step, crate::proofs::Words::writable_end))]
+#[tactic(auto, using(crate::proofs::StackWords::writable_step, crate::proofs::StackWords::writable_end))]
 pub(crate) fn check_stack(segment: u16, offset: u32, n: usize) -> Result<(), Refusal>
     requires { offset < SEGMENT_SIZE }
     ensures { MatchResult result (λ _. are_writable_words segment offset n ≡ true)
@@ -68,7 +68,7 @@ fn put_word(m: &mut Machine, segment: u16, offset: u32, v: u16)
 }
 
 /// Puts words from there on.
-#[tactic(auto, using(crate::proofs::Words::put_step))]
+#[tactic(auto, using(crate::proofs::StackWords::put_step))]
 pub(crate) fn put_words(m: &mut Machine, segment: u16, offset: u32, words: &[u16])
     requires { offset < SEGMENT_SIZE }
     ensures world { m.new.world ≡ record m.old.world { dos = with_words_at m.old.world.dos segment offset words.now } }

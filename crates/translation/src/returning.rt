@@ -107,8 +107,8 @@ fn go_on(m: &mut Machine, r: Regs, vif: bool)
 }
 
 // Gives the results of a call, and goes on with the client of the innermost record.
-#[tactic(auto, unfolding(crate::specs::SimulatedCall::after_return), using(crate::proofs::Resumed::same_depth, //
-crate::proofs::Resumed::resumed))]
+#[tactic(auto, unfolding(crate::specs::SimulatedCall::after_return), using(crate::proofs::HandedOver::same_depth, //
+crate::proofs::HandedOver::resumed))]
 fn resume(m: &mut Machine, call: Call, saved: &Regs, vif: bool, at: FarPtr)
     requires structure { IsTrue (is_reflection call || has_structure m.old.world at) }
     requires depth { 0 < depth m.old.world }

@@ -101,7 +101,7 @@ pub fn other_results(r: &Regs, vif: bool) -> [u8; 0x1A]
 }
 
 // The pointer to EBX in a structure.
-#[tactic(auto, using(crate::proofs::Reaches::structure_ends))]
+#[tactic(auto, using(crate::proofs::PutPart::structure_ends))]
 fn second_part(at: FarPtr, m: &Machine) -> FarPtr
     requires { IsTrue (has_structure m.now.world at) }
     ensures { result ≡ record { sel = at.sel; off = at.off + 0x10 } }

@@ -6,7 +6,7 @@ use Rattle.guest_ram.specs.Bytes.{dword_bytes, put}
 use Rattle.guest_ram.proofs.PutLaws.{put_away}
 use Rattle.page_tables.specs.{Mapping.{HasTables, directory_word}, Budget.{IsNamedNowhere, taken_place}, FreeList.{next_free, without_head}}
 use Rattle.page_tables.specs.{declared.budget.TheConstants.{FREE_LIST_HEAD}, declared.entry.TheConstants.{TABLE_SPAN}}
-use Rattle.page_tables.proofs.BlankTables.{dword_zero, names_none}
+use Rattle.page_tables.proofs.HostDirectory.{dword_zero, names_none}
 
 -- a directory of which entry 0 alone isn't 0
 pub one_table : (b : List ℕ) → PAGE_SIZE * BUDGET_FRAMES ≤ length b → directory_word b 0 ≡ 0x101067 →

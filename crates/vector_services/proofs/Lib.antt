@@ -1,3 +1,1 @@
-mod EachService
-pub mod KeptServices
-pub mod SoundServices
+pub mod ServiceLaws

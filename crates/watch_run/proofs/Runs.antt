@@ -1,11 +1,13 @@
--- Turns with watchpoints change nothing after an exit.
+-- Turns with watchpoints change nothing after an exit; and runs in which no function on watchpoints is served.
 use Rattle.std.proofs.Common.{arith, ◌≡◌, ◌≤◌, ◌<◌, ◌+◌, ◌-◌, ℕ, None, Some, Option, zero, suc, refl, sym, ◌∙◌, ap, subst, add-zero}
-use Rattle.std.proofs.Common.{add-suc}
+use Rattle.std.proofs.Common.{add-suc, Bool, true, false, if◌then◌else◌}
 use Rattle.std.specs.Prelude.{IsSome}
-use Rattle.client_world.specs.{declared.outcome.Exit.{Exit}, WatchWorld.{WatchWorld}, World.{HostWorld}}
-use Rattle.host_run.specs.Run.{with_bound_exit}
+use Rattle.client_world.specs.{declared.outcome.Exit.{Exit}, WatchWorld.{WatchWorld, Watching, no_watches, host_without_watches}}
+use Rattle.client_world.specs.World.{HostWorld, World}
+use Rattle.host_run.specs.{Run.{with_bound_exit, run, turns}, OtherTurns.{int31_call}, Turn.{after_outcome, turn, with_turn_counted, work}}
 use Rattle.host_run.proofs.Runs.{bounded_ended}
-use Rattle.watch_run.specs.Turn.{run_with_watchpoints, turn_with_watchpoints, turns_with_watchpoints}
+use Rattle.watch_run.specs.Turn.{run_with_watchpoints, turn_with_watchpoints, turns_with_watchpoints, after_watch_call, is_watch_call}
+use Rattle.watch_run.specs.{Turn.{after_turn_or_call, watches_after}, Hits.{with_hits}, Services.{watch_service}}
 use Rattle.watch_run.proofs.WatchedTurns.{stays}
 
 some_is : (o : Option Exit) (e : Exit) → o ≡ Some e → IsSome o
@@ -39,3 +41,55 @@ run_over w n e is =
     let past = turns_past w 0 n (omega arith) (some_is _ e is) in
     sym (ap (λ (v : WatchWorld). let x : WatchWorld = record v { host = with_bound_exit v.host } in x) past
     ∙ ap (λ (h : HostWorld). let x : WatchWorld = record w { host = h } in x) (bounded_ended w.host e is))
+
+-- ---- no function is served
+
+nothing_watched : (w : World) → watches_after w no_watches ≡ no_watches
+unfolding watches_after with_hits
+nothing_watched w = refl
+
+-- a turn of the host, by its exit
+abbrev turn_by : Option Exit → HostWorld → HostWorld
+turn_by None h = after_outcome (work (with_turn_counted h))
+turn_by (Some exit) h = h
+
+turn_is : (o : Option Exit) (h : HostWorld) → elim o as (λ _. HostWorld) [ Some _ ↦ h | None ↦ after_outcome (work (with_turn_counted h)) ]
+    ≡ turn_by o h
+turn_is None h = refl
+turn_is (Some exit) h = refl
+
+turn_of : (h : HostWorld) → turn h ≡ turn_by h.exit h
+unfolding turn
+turn_of h = turn_is h.exit h
+
+-- one with watchpoints, where none is held
+by_exit : (o : Option Exit) (h : HostWorld) (x : WatchWorld) → x ≡ host_without_watches (turn h) → turn h ≡ turn_by o h →
+    elim o as (λ _. WatchWorld) [ Some _ ↦ host_without_watches h | None ↦ x ] ≡ host_without_watches (turn h)
+by_exit None h x e t = e
+by_exit (Some exit) h x e t = ap host_without_watches (sym t)
+
+-- a function is served, or the turn is the host's
+by_call : (h : HostWorld) (served : WatchWorld) (b : Bool) → b ≡ false →
+    (if b then served else record { host = turn h; watching = watches_after h.machine no_watches }) ≡ host_without_watches (turn h)
+by_call h served true e = cc
+by_call h served false e =
+    ap (λ (s : Watching). let w : WatchWorld = record { host = turn h; watching = s } in w) (nothing_watched h.machine)
+
+plain_turn : (h : HostWorld) → is_watch_call (int31_call h) ≡ false →
+    turn_with_watchpoints (host_without_watches h) ≡ host_without_watches (turn h)
+unfolding turn_with_watchpoints
+plain_turn h none =
+    let served = after_watch_call (host_without_watches h) (watch_service h.machine.regs no_watches) in
+    by_exit h.exit h (after_turn_or_call (host_without_watches h)) (by_call h served (is_watch_call (int31_call h)) none) (turn_of h)
+
+plain_turns : (h : HostWorld) (n : ℕ) → ((k : ℕ) → k < n → is_watch_call (int31_call (turns h k)) ≡ false) →
+    turns_with_watchpoints (host_without_watches h) n ≡ host_without_watches (turns h n)
+unfolding turns_with_watchpoints turns
+plain_turns h zero none = refl
+plain_turns h (suc n) none =
+    ap turn_with_watchpoints (plain_turns h n (λ k less. none k (omega (arith, less))))
+    ∙ plain_turn (turns h n) (none n (omega arith))
+
+pub plain_run : (h : HostWorld) (n : ℕ) → ((k : ℕ) → k < n → is_watch_call (int31_call (turns h k)) ≡ false) →
+    run_with_watchpoints (host_without_watches h) n ≡ host_without_watches (run h n)
+plain_run h n none = ap (λ (w : WatchWorld). record w { host = with_bound_exit w.host }) (plain_turns h n none)

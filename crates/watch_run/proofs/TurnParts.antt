@@ -11,7 +11,7 @@ use Rattle.host_run.specs.{declared.traps.Trap.TheVariants.{NoTrap, ProtectedVec
 use Rattle.host_run.proofs.OtherTurns.{exception_quiet, int31_quiet}
 use Rattle.watch_run.specs.{Hits.{has_first_hit, instruction_address, next_touches, with_hits}, Services.{WatchAnswer, is_watch_function}}
 use Rattle.watch_run.specs.Turn.{after_watch_call, is_watch_call, turn_touches, watches_after}
-use Rattle.watch_run.proofs.NoteLaws.{marked_none, none_due}
+use Rattle.watch_run.proofs.HitLaws.{marked_none, none_due}
 
 -- ---- the function that is asked for
 

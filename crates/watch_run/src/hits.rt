@@ -126,9 +126,9 @@ fn is_first_hit(at: u32, touches: &[Touch], slot: Option<Watch>) -> bool
 impl Watches {
     /// Sets the status of each watchpoint that the instruction at CS:EIP hits. A hit is due where the status of one was clear.
     #[inline(never)]
-    #[tactic(auto, unfolding(crate::specs::Hits::with_hits), using(crate::proofs::NoteLaws::marked_none, //
-    crate::proofs::NoteLaws::none_due, crate::proofs::NoteLaws::step_marked, crate::proofs::NoteLaws::step_due, //
-    crate::proofs::NoteLaws::end_marked, crate::proofs::NoteLaws::end_due))]
+    #[tactic(auto, unfolding(crate::specs::Hits::with_hits), using(crate::proofs::HitLaws::marked_none, //
+    crate::proofs::HitLaws::none_due, crate::proofs::HitLaws::step_marked, crate::proofs::HitLaws::step_due, //
+    crate::proofs::HitLaws::end_marked, crate::proofs::HitLaws::end_due))]
     pub(crate) fn note_hits(&mut self, m: &Machine)
         ensures { self.new ≡ with_hits (instruction_address m.now.world) (next_touches m.now.world) self.old }
     {

@@ -46,8 +46,8 @@ fn described_watch(r: &Regs) -> Watch
 
 impl Watches {
     // The lowest handle that is free.
-    #[tactic(auto, unfolding(crate::specs::Watches::lowest_free), using(service_rows::proofs::IndexLaws::index_found, //
-    service_rows::proofs::IndexLaws::index_passed, service_rows::proofs::IndexLaws::index_missed))]
+    #[tactic(auto, unfolding(crate::specs::Watches::lowest_free), using(service_rows::proofs::RunLaws::index_found, //
+    service_rows::proofs::RunLaws::index_passed, service_rows::proofs::RunLaws::index_missed))]
     fn lowest_free(&self) -> Option<u16>
         ensures { MatchOption result (lowest_free self.now.watches ≡ None)
             (λ handle. (lowest_free self.now.watches ≡ Some handle) × (0 < handle) × (handle ≤ WATCHES)) }

@@ -4,7 +4,7 @@ use Rattle.client_world.specs.{declared.host_frames.TheConstants.{PAGE_SIZE}, de
 use Rattle.client_world.specs.declared.memory_map.TheConstants.{BLOCK_REGION}
 use Rattle.block_memory.specs.BlockSizes.{locked_of, locked_run}
 use Rattle.host_memory.specs.Layout.{handles_part, locks_part, first_page_of}
-use Rattle.block_memory.proofs.{PageSums.{sum_next, locked_part, all_locked_is}, RowReads.{row_pages_read, row_base_read}}
+use Rattle.block_memory.proofs.{PageSums.{sum_next, locked_part, all_locked_is}, PageWrites.{row_pages_read, row_base_read}}
 use Rattle.guest_ram.specs.Count.{total}
 use Rattle.block_memory.proofs.counts.locked_pages.Goals as goal
 

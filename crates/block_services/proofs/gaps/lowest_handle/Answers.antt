@@ -2,8 +2,8 @@ use Rattle.std.proofs.Common.{◌≡◌, ◌∙◌, sym, refl, ap, arith, rules,
 use Rattle.std.specs.Option.{is_none}
 use Rattle.client_world.specs.{declared.limits.TheConstants.{MAX_BLOCKS}, World.{block_at}}
 use Rattle.block_services.specs.Gaps.{lowest_handle}
-use Rattle.service_rows.proofs.IndexLaws.{index_found, index_missed, index_passed}
-use Rattle.block_services.proofs.{GapLaws.{seen_none}, HandleLaws.{is_free, none_of}}
+use Rattle.service_rows.proofs.RunLaws.{index_found, index_missed, index_passed}
+use Rattle.block_services.proofs.SpanLists.{seen_none, is_free, none_of}
 use Rattle.block_services.proofs.gaps.lowest_handle.Goals as goal
 
 pub returns-then-is_none : goal.returns-then-is_none

@@ -1,7 +1,7 @@
 use Rattle.std.proofs.Common.{◌≡◌, ◌+◌, ◌-◌}
 use Rattle.client_world.specs.declared.limits.TheConstants.{MAX_BLOCKS}
 use Rattle.service_rows.specs.FirstIndex.{first_index}
-use Rattle.block_services.proofs.HandleLaws.{is_free}
+use Rattle.block_services.proofs.SpanLists.{is_free}
 use Rattle.block_services.proofs.gaps.lowest_handle.Given as goal
 
 abbrev pub invariant-loop-handle : goal.invariant-loop-handle

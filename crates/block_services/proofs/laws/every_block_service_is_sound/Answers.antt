@@ -1,4 +1,4 @@
-use Rattle.block_services.proofs.SoundServices.{sound_service}
+use Rattle.block_services.proofs.ServiceLaws.{sound_service}
 use Rattle.block_services.proofs.laws.every_block_service_is_sound.Goals as goal
 
 pub returns : goal.returns

@@ -1,4 +1,4 @@
-use Rattle.block_services.proofs.KeptServices.{kept_service}
+use Rattle.block_services.proofs.ServiceLaws.{kept_service}
 use Rattle.block_services.proofs.laws.every_block_service_keeps_the_rest.Goals as goal
 
 pub returns : goal.returns

@@ -1,5 +1,5 @@
 use Rattle.block_services.specs.Rows.{free_pages}
-use Rattle.block_services.proofs.StayLaws.{largest_is}
+use Rattle.block_services.proofs.RoomLaws.{largest_is}
 use Rattle.block_services.proofs.laws.the_table_gives_the_largest_block.Goals as goal
 
 pub returns : goal.returns

@@ -1,6 +1,6 @@
 use Rattle.std.proofs.Common.{◌∙◌, sym, arith}
 use Rattle.block_services.specs.Rows.{first_page, page_count}
-use Rattle.block_services.proofs.ViewLaws.{in_view}
+use Rattle.block_services.proofs.RoomLaws.{in_view}
 use Rattle.block_services.proofs.pages.relock_pages.Goals as goal
 
 pub set_pages-requires-clause-view : goal.set_pages-requires-clause-view

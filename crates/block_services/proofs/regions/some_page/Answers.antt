@@ -1,7 +1,7 @@
 use Rattle.std.proofs.Common.{◌∙◌, sym, ap, ◌+◌}
 use Rattle.std.specs.Option.{is_some}
 use Rattle.block_services.specs.Pages.{page_answer, some_page}
-use Rattle.service_rows.proofs.IndexLaws.{index_found, index_missed, index_passed}
+use Rattle.service_rows.proofs.RunLaws.{index_found, index_missed, index_passed}
 use Rattle.block_services.proofs.regions.some_page.Goals as goal
 
 pub returns-then-page_answer : goal.returns-then-page_answer

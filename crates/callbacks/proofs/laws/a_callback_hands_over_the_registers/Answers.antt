@@ -1,4 +1,4 @@
-use Rattle.callbacks.proofs.HandedOver.{has_entered}
+use Rattle.callbacks.proofs.SoundEntries.{has_entered}
 use Rattle.callbacks.proofs.laws.a_callback_hands_over_the_registers.Goals as goal
 
 pub returns : goal.returns

@@ -1,4 +1,4 @@
-use Rattle.callbacks.proofs.KeptWorld.{enter_pushes, leave_pops}
+use Rattle.callbacks.proofs.Started.{enter_pushes, leave_pops}
 use Rattle.callbacks.proofs.laws.every_callback_is_stacked.Goals as goal
 
 pub returns-clause-enter : goal.returns-clause-enter

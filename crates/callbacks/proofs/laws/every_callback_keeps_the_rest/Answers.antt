@@ -1,4 +1,4 @@
-use Rattle.callbacks.proofs.{KeptWorld.{enter_left, leave_left}, Served.{refused_world, serve_left}}
+use Rattle.callbacks.proofs.{Started.{enter_left, leave_left}, Served.{refused_world, serve_left}}
 use Rattle.callbacks.proofs.laws.every_callback_keeps_the_rest.Goals as goal
 
 pub returns-clause-serve : goal.returns-clause-serve

@@ -1,4 +1,4 @@
-use Rattle.cpu_step.proofs.{CodeBytes.{code_is_bytes}, Outcomes.{outcome_is, only_outcome}}
+use Rattle.cpu_step.proofs.CodeBytes.{code_is_bytes, outcome_is, only_outcome}
 use Rattle.cpu_step.proofs.laws.a_step_has_one_outcome.Goals as goal
 
 pub returns-clause-is : goal.returns-clause-is

@@ -1,4 +1,4 @@
-use Rattle.cpu_step.proofs.{Joined.{touches_join, touches_inside}, WriteFlags.{written_touches_are}}
+use Rattle.cpu_step.proofs.{Joined.{touches_join, touches_inside}, EventTouches.{written_touches_are}}
 use Rattle.cpu_step.proofs.laws.every_touch_is_an_access.Goals as goal
 
 pub returns-clause-places : goal.returns-clause-places

@@ -1,5 +1,5 @@
 use Rattle.std.proofs.Common.{rules, sym}
-use Rattle.desc_services.proofs.SegmentLaws.{may_make_segment}
+use Rattle.desc_services.proofs.PutLaws.{may_make_segment}
 use Rattle.desc_services.proofs.segment.segment_to_descriptor.Goals as goal
 
 pub put-requires : goal.put-requires

@@ -1,7 +1,7 @@
 use Rattle.std.proofs.Common.{ap, arith}
 use Rattle.client_world.specs.declared.dos_memory.DosEntry.{DosEntry}
 use Rattle.dos_blocks.specs.Blocks.{missing_entry}
-use Rattle.dos_blocks.proofs.NeighbourLaws.{entry_within}
+use Rattle.dos_blocks.proofs.Splicing.{entry_within}
 use Rattle.dos_blocks.proofs.neighbours.entry_of_place.Goals as goal
 
 pub returns-then-place-arena_len-clause-small : goal.returns-then-place-arena_len-clause-small

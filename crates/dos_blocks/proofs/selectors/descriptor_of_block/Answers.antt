@@ -1,7 +1,7 @@
 use Rattle.std.proofs.Common.{◌∙◌, sym}
 use Rattle.client_world.specs.declared.host_frames.TheConstants.{DESCRIPTORS}
 use Rattle.dos_blocks.specs.Blocks.{descriptor_of_block}
-use Rattle.service_rows.proofs.IndexLaws.{index_found, index_missed, index_passed}
+use Rattle.service_rows.proofs.RunLaws.{index_found, index_missed, index_passed}
 use Rattle.dos_blocks.proofs.BlockRuns.{is_of_block}
 use Rattle.dos_blocks.proofs.selectors.descriptor_of_block.Goals as goal
 

@@ -1,7 +1,7 @@
 use Rattle.std.proofs.Common.{◌≡◌, ◌∙◌, ap, sym, arith, ℕ, true}
 use Rattle.client_world.specs.{declared.dos_memory.DosEntry.{DosEntry}, Selector.{index_of}}
 use Rattle.dos_blocks.specs.Blocks.{missing_entry, entry_of_place, has_room_to_grow, run_of_block}
-use Rattle.dos_blocks.proofs.{BlockRuns.{can_resize_named}, CallLaws.{has_room}, Founds.{found_block}, NeighbourLaws.{entry_within}}
+use Rattle.dos_blocks.proofs.{BlockRuns.{can_resize_named}, RunPuts.{has_room}, Searches.{found_block}, Splicing.{entry_within}}
 use Rattle.dos_blocks.proofs.services.resize_dos_block.Goals as goal
 
 pub arena-entry-requires : goal.arena-entry-requires

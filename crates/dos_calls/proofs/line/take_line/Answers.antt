@@ -1,6 +1,6 @@
 use Rattle.std.proofs.Common.{◌∙◌, ◌-◌, ℕ, List, take, true, false, ap, sym}
 use Rattle.dos_calls.specs.Calls.{CallState}
-use Rattle.dos_calls.proofs.PrintLaws.{line_goes}
+use Rattle.dos_calls.proofs.ConsoleLaws.{line_goes}
 use Rattle.dos_calls.proofs.line.take_line.Goals as goal
 
 pub returns-then-not-print_line-clause-call : goal.returns-then-not-print_line-clause-call

@@ -1,4 +1,4 @@
-use Rattle.dpmi_io.proofs.Putting.{puts_cut, puts_then}
+use Rattle.dpmi_io.proofs.Output.{puts_cut, puts_then}
 use Rattle.dpmi_cli.proofs.pairs.write_client.Goals as goal
 
 pub returns-in_err-put_client_line : goal.returns-in_err-put_client_line

@@ -1,8 +1,8 @@
 use Rattle.std.proofs.Common.{ap}
-use Rattle.dpmi_io.proofs.Putting.{puts_cut, puts_text, puts_then}
+use Rattle.dpmi_io.proofs.Output.{puts_cut, puts_text, puts_then}
 use Rattle.pair_run.specs.declared.lines.Letter.TheVariants.{A, B}
 use Rattle.dpmi_cli.specs.Pairs.{client_part}
-use Rattle.dpmi_cli.proofs.PairAnswers.{first, run_ended, slices_put, when_ok}
+use Rattle.dpmi_cli.proofs.RunAnswers.{first, run_ended, slices_put, when_ok}
 use Rattle.dpmi_cli.proofs.pairs.write_turns.Goals as goal
 
 pub pair-requires-clause-first_a : goal.pair-requires-clause-first_a

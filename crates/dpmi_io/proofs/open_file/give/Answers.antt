@@ -1,5 +1,5 @@
 use Rattle.std.proofs.{Common.{arith}, lemmas.Grind.{common_steps}}
-use Rattle.dpmi_io.proofs.Input.{given_rest}
+use Rattle.dpmi_io.proofs.Output.{given_rest}
 use Rattle.dpmi_io.proofs.open_file.give.Goals as goal
 
 pub returns-clause-bytes : goal.returns-clause-bytes

@@ -1,4 +1,4 @@
-use Rattle.dpmi_io.proofs.Putting.{puts_cut, puts_cut_early, puts_then}
+use Rattle.dpmi_io.proofs.Output.{puts_cut, puts_cut_early, puts_then}
 use Rattle.dpmi_report.proofs.parts.put_console.Goals as goal
 
 pub returns-in_err-put_console_head : goal.returns-in_err-put_console_head

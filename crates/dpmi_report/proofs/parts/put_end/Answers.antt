@@ -1,5 +1,5 @@
 use Rattle.std.proofs.Common.{◌∙◌}
-use Rattle.dpmi_io.proofs.Putting.{puts_text}
+use Rattle.dpmi_io.proofs.Output.{puts_text}
 use Rattle.dpmi_report.proofs.parts.put_end.Goals as goal
 
 pub returns : goal.returns

@@ -1,4 +1,4 @@
-use Rattle.dpmi_io.proofs.Putting.{puts_cut, puts_cut_early, puts_then}
+use Rattle.dpmi_io.proofs.Output.{puts_cut, puts_cut_early, puts_then}
 use Rattle.dpmi_report.proofs.report.write_all_at.Goals as goal
 
 pub returns-in_err-write_run : goal.returns-in_err-write_run

@@ -1,4 +1,4 @@
-use Rattle.dpmi_io.proofs.Putting.{puts_cut, puts_cut_early, puts_then}
+use Rattle.dpmi_io.proofs.Output.{puts_cut, puts_cut_early, puts_then}
 use Rattle.dpmi_report.proofs.report.write_run.Goals as goal
 
 pub returns-in_err-put_console : goal.returns-in_err-put_console

@@ -1,4 +1,4 @@
-use Rattle.dpmi_io.proofs.Putting.{puts_cut, puts_then}
+use Rattle.dpmi_io.proofs.Output.{puts_cut, puts_then}
 use Rattle.dpmi_report.proofs.report.write_state.Goals as goal
 
 pub returns-in_err-put_processor : goal.returns-in_err-put_processor

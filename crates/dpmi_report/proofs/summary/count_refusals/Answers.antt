@@ -1,6 +1,6 @@
 use Rattle.std.proofs.Common.{arith}
 use Rattle.dpmi_report.specs.Summary.{is_refusal}
-use Rattle.dpmi_report.proofs.Counts.{counted}
+use Rattle.dpmi_report.proofs.Sequence.{counted}
 use Rattle.dpmi_report.proofs.summary.count_refusals.Goals as goal
 
 pub loop-i-preserved : goal.loop-i-preserved

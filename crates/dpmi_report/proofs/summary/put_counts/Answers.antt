@@ -1,4 +1,4 @@
-use Rattle.dpmi_io.proofs.Putting.{puts_cut, puts_cut_early, puts_then}
+use Rattle.dpmi_io.proofs.Output.{puts_cut, puts_cut_early, puts_then}
 use Rattle.dpmi_report.proofs.summary.put_counts.Goals as goal
 
 pub returns-in_err-put_soak : goal.returns-in_err-put_soak

@@ -1,4 +1,4 @@
-use Rattle.dpmi_io.proofs.Putting.{puts_cut, puts_then}
+use Rattle.dpmi_io.proofs.Output.{puts_cut, puts_then}
 use Rattle.dpmi_report.proofs.summary.write_summary.Goals as goal
 
 pub returns-in_err-put_counts : goal.returns-in_err-put_counts

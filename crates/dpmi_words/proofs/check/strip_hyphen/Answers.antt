@@ -1,6 +1,6 @@
 use Rattle.std.proofs.{Common.{arith, ◌∙◌}, lemmas.Str.Pattern.{strip_prefix_char}}
 use Rattle.clap.proofs.LexerLemmas.{strip_byte-from}
-use Rattle.dpmi_words.proofs.Hyphens.{strip_is}
+use Rattle.dpmi_words.proofs.EitherWay.{strip_is}
 use Rattle.dpmi_words.proofs.check.strip_hyphen.Goals as goal
 
 pub returns : goal.returns

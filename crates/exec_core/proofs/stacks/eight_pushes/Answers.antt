@@ -3,7 +3,7 @@ use Rattle.client_world.specs.declared.registers.Regs.{Regs}
 use Rattle.exec_core.specs.Stacks.{pusha, with_pushed_register}
 use Rattle.insn_forms.specs.declared.insn.Insn.{Insn}
 use Rattle.insn_plan.specs.{Act.{Pending, done, unchanged}, Stack.{with_push}}
-use Rattle.exec_core.proofs.Pushes.{push_is}
+use Rattle.exec_core.proofs.Parts.{push_is}
 use Rattle.exec_core.proofs.stacks.eight_pushes.Goals as goal
 
 pub returns : goal.returns

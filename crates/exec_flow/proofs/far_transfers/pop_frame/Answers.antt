@@ -2,7 +2,7 @@ use Rattle.std.proofs.Common.{rules, ◌≡◌, ◌∙◌, Ok}
 use Rattle.client_world.specs.General.{with_general}
 use Rattle.exec_flow.specs.{FarTransfers.{pending_of_interrupt_frame}, FlagImages.{with_popped_flags}}
 use Rattle.guest_space.specs.Pending.{first_write_fault, after_writes}
-use Rattle.insn_plan.proofs.Settled.{carried_by}
+use Rattle.insn_plan.proofs.WrittenState.{carried_by}
 use Rattle.insn_plan.specs.{Plan.{after_commit}, Stack.{regs_after_pops}}
 use Rattle.exec_flow.proofs.far_transfers.pop_frame.Goals as goal
 

@@ -1,5 +1,5 @@
 use Rattle.std.proofs.{Common.{◌≡◌, ◌∙◌, ◌+◌, ◌-◌, suc, Err, ap, arith, sym}, lemmas.Result.{err_from_is_err_and}}
-use Rattle.exec_flow.proofs.FrameReads.{frames_next, frames_stop, frames_end}
+use Rattle.exec_flow.proofs.EnterLaws.{frames_next, frames_stop, frames_end}
 use Rattle.exec_flow.proofs.frames.push_frames.Goals as goal
 
 pub returns-in_err-v-clause-pushed : goal.returns-in_err-v-clause-pushed

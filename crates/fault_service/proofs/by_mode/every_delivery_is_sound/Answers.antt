@@ -1,4 +1,4 @@
-use Rattle.fault_service.proofs.ByMode.{sound_by_mode}
+use Rattle.fault_service.proofs.SoundAnswers.{sound_by_mode}
 use Rattle.fault_service.proofs.by_mode.every_delivery_is_sound.Goals as goal
 
 pub returns : goal.returns

@@ -1,5 +1,5 @@
 use Rattle.std.proofs.Common.{arith}
-use Rattle.fault_service.proofs.FrameBytes.{all_dwords}
+use Rattle.fault_service.proofs.FrameItems.{all_dwords}
 use Rattle.fault_service.proofs.frame.dword_frame.Goals as goal
 
 pub returns : goal.returns

@@ -1,4 +1,4 @@
-use Rattle.fault_service.proofs.MemoryLaws.{delivery_law, frame_lies, return_law}
+use Rattle.fault_service.proofs.SoundAnswers.{delivery_law, frame_lies, return_law}
 use Rattle.fault_service.proofs.laws.every_delivery_and_return_changes_only_its_bytes.Goals as goal
 
 pub returns-clause-delivery : goal.returns-clause-delivery

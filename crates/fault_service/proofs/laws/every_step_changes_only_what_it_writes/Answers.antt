@@ -1,4 +1,4 @@
-use Rattle.fault_service.proofs.StepMemory.{interrupt_law, real_delivery_law, step_law}
+use Rattle.fault_service.proofs.AwayWrites.{interrupt_law, real_delivery_law, step_law}
 use Rattle.fault_service.proofs.laws.every_step_changes_only_what_it_writes.Goals as goal
 
 pub returns-clause-step : goal.returns-clause-step

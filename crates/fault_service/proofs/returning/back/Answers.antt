@@ -1,5 +1,5 @@
 use Rattle.std.proofs.Common.{◌∙◌, sym, arith}
-use Rattle.fault_service.proofs.KeptRecords.{exception_there, pop_keeps_depth}
+use Rattle.fault_service.proofs.Plans.{exception_there, pop_keeps_depth}
 use Rattle.fault_service.proofs.returning.back.Goals as goal
 
 pub pop-requires : goal.pop-requires

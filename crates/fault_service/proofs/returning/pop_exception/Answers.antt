@@ -1,6 +1,6 @@
 use Rattle.std.proofs.Common.{rules, ◌≡◌, ◌∙◌, Ok}
 use Rattle.guest_space.specs.Pending.{first_write_fault, after_writes}
-use Rattle.insn_plan.proofs.Settled.{carried_by}
+use Rattle.insn_plan.proofs.WrittenState.{carried_by}
 use Rattle.insn_plan.specs.Plan.{after_commit}
 use Rattle.fault_service.specs.Return.{pending_of_exception_frame}
 use Rattle.fault_service.proofs.returning.pop_exception.Goals as goal

@@ -5,7 +5,7 @@ use Rattle.guest_ram.proofs.Steps.{split, join, feq_i, rewrite, regoal, suffices
 use Rattle.guest_ram.proofs.Steps.{first, blocks, branches, skips, exec, returns, alloc_all, pass_all, free_all, look_at, get, through}
 use Rattle.guest_ram.proofs.Steps.{sets, env, u8, yes, uint_in, uint_vals, uint_Tells, Ptr, RawPtr, block_ptr, in_a_block, rawptr_vals}
 use Rattle.guest_ram.proofs.Steps.{rawptr_Tells, plain, nothing, on_entry, Stays, walk_of, stay_dropped, Goes-dropped, ends_at}
-use Rattle.guest_ram.proofs.{ByteCells.{row_more, row_whole}, ram.put_zeros.Statement.{statement}}
+use Rattle.guest_ram.proofs.{Insides.{row_more, row_whole}, ram.put_zeros.Statement.{statement}}
 use Rattle.std.proofs.{Common.{◌+◌, ◌-◌, ◌<◌, ◌^◌, suc, replicate, ◌++◌, add_comm, add-zero, w64, ltb→lt}, lemmas.List.{length-replicate}}
 use Rattle.std.proofs.{lemmas.List.{replicate-append-replicate}, VecSteps.Shapes.{after, head}}
 use lib.WfN.{lt-wf_rel}

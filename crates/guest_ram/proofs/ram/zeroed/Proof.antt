@@ -5,7 +5,7 @@ use Rattle.guest_ram.proofs.Steps.{split, join, fsplit, fjoin, fpick, fpack, feq
 use Rattle.guest_ram.proofs.Steps.{bin, lit, load, look, stop, fld, no_more, and_then, first, blocks, exec, returns, alloc_all, pass_all}
 use Rattle.guest_ram.proofs.Steps.{free_all, look_at, get, through, sets, lands_as, env, u8, unit, yes, uint_vals, uint_Tells, Ptr}
 use Rattle.guest_ram.proofs.Steps.{block_ptr, lies_at, in_a_block, plain, nothing, owned, heard, only, calls_at, triple_of, Stays, walk_of}
-use Rattle.guest_ram.proofs.{Steps.{says, stay_dropped, Goes-dropped, ends_at, framed}, ListedLaws.{length-zeros}, FitLaws.{fit-zeros}}
+use Rattle.guest_ram.proofs.{Steps.{says, stay_dropped, Goes-dropped, ends_at, framed}, ListedLaws.{length-zeros}, ByteLists.{fit-zeros}}
 use Rattle.guest_ram.proofs.{WalkSteps.{big_lit}, Insides.{Held, Words, fields_made}, ram.Ram.TheInside.TheLaws.{lowers}}
 use Rattle.guest_ram.proofs.ram.zeroed.Statement.{statement}
 use Rattle.std.proofs.{Common.{◌*◌, ◌<◌, ◌^◌, ◌++◌, length, w32, w64, subst, T, Bool, true, false, Ok, Err, IfOk}, VecSteps.Shapes.{after}}

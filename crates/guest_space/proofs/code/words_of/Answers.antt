@@ -1,5 +1,5 @@
 use Rattle.std.proofs.Common.{arith}
-use Rattle.guest_space.proofs.CodeRuns.{words_of_region}
+use Rattle.guest_space.proofs.Codes.{words_of_region}
 use Rattle.guest_space.proofs.code.words_of.Goals as goal
 
 pub returns : goal.returns

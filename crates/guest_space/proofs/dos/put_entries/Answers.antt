@@ -4,7 +4,7 @@ use Rattle.guest_ram.proofs.PutLaws.{length-put}
 use Rattle.host_memory.specs.{DosList.{arena_in}, Layout.{arena_part}}
 use Rattle.guest_space.specs.Arena.{with_replaced_entries}
 use Rattle.host_memory.proofs.ListsClaim.{length-arena_in}
-use Rattle.guest_space.proofs.{ArenaReads.{list_start}, ArenaSplices.{length-spliced}, ArenaWrites.{splice_fits, arena_after, count_after}}
+use Rattle.guest_space.proofs.{ArenaLists.{list_start}, ArenaPuts.{length-spliced}, ArenaWrites.{splice_fits, arena_after, count_after}}
 use Rattle.guest_space.proofs.ArenaWrites.{replaced_is, written_is}
 use Rattle.guest_space.proofs.dos.put_entries.Goals as goal
 

@@ -1,4 +1,4 @@
-use Rattle.guest_space.proofs.KeptAccess.{near_kept, far_kept, reachable_kept}
+use Rattle.guest_space.proofs.MemoryAlone.{near_kept, far_kept, reachable_kept}
 use Rattle.guest_space.proofs.laws.a_write_changes_no_access.Goals as goal
 
 pub returns-clause-near : goal.returns-clause-near

@@ -1,4 +1,4 @@
-use Rattle.guest_space.proofs.FarPuts.{sound_far, far_alone}
+use Rattle.guest_space.proofs.FarLaws.{sound_far, far_alone}
 use Rattle.guest_space.proofs.laws.every_far_write_is_sound.Goals as goal
 
 pub returns-clause-sound : goal.returns-clause-sound

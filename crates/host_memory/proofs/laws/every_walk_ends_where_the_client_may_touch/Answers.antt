@@ -1,4 +1,4 @@
-use Rattle.host_memory.proofs.{ByteLaw.{byte_agrees}, WalkLaw.{walk_agrees}, WorldParts.{budget_is}}
+use Rattle.host_memory.proofs.{ClientPlaces.{byte_agrees}, WalkLaw.{walk_agrees}, Parts.{budget_is}}
 use Rattle.host_memory.proofs.laws.every_walk_ends_where_the_client_may_touch.Goals as goal
 
 pub returns-clause-walks : goal.returns-clause-walks

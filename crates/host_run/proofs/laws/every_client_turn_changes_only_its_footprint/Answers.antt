@@ -1,4 +1,4 @@
-use Rattle.host_run.proofs.ClientChanges.{client_changes}
+use Rattle.host_run.proofs.Touches.{client_changes}
 use Rattle.host_run.proofs.laws.every_client_turn_changes_only_its_footprint.Goals as goal
 
 pub returns : goal.returns

@@ -1,4 +1,4 @@
-use Rattle.host_run.proofs.RefusedFunctions.{any_function, other_function}
+use Rattle.host_run.proofs.Services.{any_function, other_function}
 use Rattle.host_run.proofs.service_laws.every_refused_function_changes_ax_and_bx_alone.Goals as goal
 
 pub returns-clause-all : goal.returns-clause-all

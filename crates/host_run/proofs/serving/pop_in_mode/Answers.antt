@@ -1,6 +1,6 @@
 use Rattle.std.proofs.Common.{ap, rules}
 use Rattle.client_world.specs.World.{World}
-use Rattle.interrupts.proofs.{KeptWorlds.{kept_world_popped}, ReturnStates.{return_state}}
+use Rattle.interrupts.proofs.KeptWorlds.{kept_world_popped, return_state}
 use Rattle.host_memory.specs.View.{MachineView}
 use Rattle.host_run.proofs.serving.pop_in_mode.Goals as goal
 

@@ -1,5 +1,5 @@
 use Rattle.std.proofs.Common.{arith}
-use Rattle.insn_decode.proofs.SizedNumbers.{fits_word}
+use Rattle.insn_decode.proofs.WholeNumbers.{fits_word}
 use Rattle.insn_decode.proofs.address.addressing.Goals as goal
 
 pub overflow_cast-disp : goal.overflow_cast-disp

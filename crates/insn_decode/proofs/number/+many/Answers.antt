@@ -1,5 +1,5 @@
 use Rattle.std.proofs.Common.{ℕ, ◌+◌, ◌*◌, ◌^◌, ◌<◌, ◌≤◌, arith}
-use Rattle.insn_decode.proofs.SizedNumbers.{grows}
+use Rattle.insn_decode.proofs.WholeNumbers.{grows}
 use Rattle.insn_decode.proofs.number.+many.Goals as goal
 
 grown : (t : ℕ) (c : goal.After-from t)

@@ -1,5 +1,5 @@
 use Rattle.std.proofs.Common.{arith}
-use Rattle.insn_decode.proofs.SizedNumbers.{fits_byte}
+use Rattle.insn_decode.proofs.WholeNumbers.{fits_byte}
 use Rattle.insn_decode.proofs.number.byte.Goals as goal
 
 pub overflow_cast-result : goal.overflow_cast-result

@@ -2,7 +2,7 @@ use Rattle.std.proofs.Common.{Ok, sym, ap, ◌∙◌}
 use Rattle.host_memory.specs.View.{MachineView}
 use Rattle.insn_forms.specs.declared.insn.Operand.{Operand}
 use Rattle.insn_plan.specs.{Act.{unchanged}, Operands.{put_operand}, Plan.{after_commit}}
-use Rattle.insn_plan.proofs.Registered.{put_in_register}
+use Rattle.insn_plan.proofs.WrittenState.{put_in_register}
 use Rattle.insn_plan.proofs.operands.put_operand.Goals as goal
 
 pub returns-in-Reg : goal.returns-in-Reg

@@ -3,7 +3,7 @@ use Rattle.guest_space.specs.Registers.{with_registers}
 use Rattle.host_memory.specs.View.{MachineView}
 use Rattle.insn_forms.specs.declared.insn.Operand.{Operand}
 use Rattle.insn_plan.specs.{Act.{with_flags}, Operands.{put_operand}, Plan.{after_commit}, Registers.{with_register}}
-use Rattle.insn_plan.proofs.Registered.{put_with_flags_in_register}
+use Rattle.insn_plan.proofs.WrittenState.{put_with_flags_in_register}
 use Rattle.insn_plan.proofs.operands.put_with_flags.Goals as goal
 
 pub returns-in-Reg : goal.returns-in-Reg

@@ -1,4 +1,4 @@
-use Rattle.insn_plan.proofs.Settled.{pushes_settled}
+use Rattle.insn_plan.proofs.WrittenState.{pushes_settled}
 use Rattle.insn_plan.proofs.stack.settle_pushes.Goals as goal
 
 pub returns : goal.returns

@@ -1,4 +1,4 @@
-use Rattle.interrupts.proofs.{KeptWorlds.{kept_world_popped}, ReturnStates.{return_state}}
+use Rattle.interrupts.proofs.KeptWorlds.{kept_world_popped, return_state}
 use Rattle.interrupts.proofs.laws.a_return_changes_registers_alone.Goals as goal
 
 pub returns-clause-state : goal.returns-clause-state

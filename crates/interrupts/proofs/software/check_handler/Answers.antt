@@ -1,5 +1,5 @@
 use Rattle.std.proofs.Common.{rules}
-use Rattle.interrupts.proofs.Handlers.{refused_by_vector}
+use Rattle.interrupts.proofs.KeptWorlds.{refused_by_vector}
 use Rattle.interrupts.proofs.software.check_handler.Goals as goal
 
 pub returns-in-Err-clause-refused : goal.returns-in-Err-clause-refused

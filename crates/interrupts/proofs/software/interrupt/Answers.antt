@@ -1,4 +1,4 @@
-use Rattle.interrupts.proofs.Handlers.{granted_after_pushes}
+use Rattle.interrupts.proofs.KeptWorlds.{granted_after_pushes}
 use Rattle.interrupts.proofs.software.interrupt.Goals as goal
 
 pub enter-requires : goal.enter-requires

@@ -1,5 +1,5 @@
 use Rattle.std.proofs.Common.{arith}
-use Rattle.mode_gates.proofs.EntryRows.{may_put}
+use Rattle.mode_gates.proofs.SoundGates.{may_put}
 use Rattle.mode_gates.proofs.entering.make.Goals as goal
 
 pub set_desc-requires-clause-sound : goal.set_desc-requires-clause-sound

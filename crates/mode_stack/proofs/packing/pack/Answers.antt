@@ -1,4 +1,4 @@
-use Rattle.mode_stack.proofs.PutRuns.{sim_packed, back_packed, exc_packed}
+use Rattle.mode_stack.proofs.Trips.{sim_packed, back_packed, exc_packed}
 use Rattle.mode_stack.proofs.packing.pack.Goals as goal
 
 pub returns-in-Sim : goal.returns-in-Sim

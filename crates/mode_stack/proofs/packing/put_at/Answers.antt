@@ -1,5 +1,5 @@
 use Rattle.std.proofs.Common.{◌+◌, ◌-◌, length, arith}
-use Rattle.mode_stack.proofs.PutRuns.{put_mid_is}
+use Rattle.mode_stack.proofs.Trips.{put_mid_is}
 use Rattle.mode_stack.proofs.packing.put_at.Goals as goal
 
 pub returns : goal.returns

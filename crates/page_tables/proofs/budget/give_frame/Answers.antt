@@ -1,4 +1,4 @@
-use Rattle.page_tables.proofs.FreeWrites.{frame_given}
+use Rattle.page_tables.proofs.FreeFrames.{frame_given}
 use Rattle.page_tables.proofs.budget.give_frame.Goals as goal
 
 pub returns-clause-list : goal.returns-clause-list

@@ -1,5 +1,5 @@
 use Rattle.std.proofs.Common.{◌-◌}
-use Rattle.page_tables.proofs.FreeLinks.{Linking}
+use Rattle.page_tables.proofs.FreeFrames.{Linking}
 use Rattle.page_tables.proofs.budget.link_frames.Given as goal
 
 abbrev pub invariant-loop-linked : goal.invariant-loop-linked

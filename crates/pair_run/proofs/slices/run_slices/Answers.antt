@@ -1,6 +1,6 @@
 use Rattle.std.proofs.Common.{arith, refl, sym, subst, ap, ◌∙◌, ◌≡◌, ◌≤◌, ◌+◌}
 use Rattle.dpmi_io.specs.Causes.{Rose}
-use Rattle.dpmi_io.proofs.Putting.{puts_done, puts_failed}
+use Rattle.dpmi_io.proofs.Output.{puts_done, puts_failed}
 use Rattle.pair_run.specs.{declared.lines.Letter.TheVariants.{A, B}, Run.{turns_of}, Slices.{own_run}}
 use Rattle.pair_run.proofs.{OwnRuns.{client_of, over, room, turns_none}, PairTexts.{Made, a_failed, b_failed, line_failed, line_gained}}
 use Rattle.pair_run.proofs.PairTexts.{next_begins, pair_more, pair_none, pair_whole, slice_ends, when_err}

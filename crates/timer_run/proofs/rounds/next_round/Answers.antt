@@ -2,10 +2,10 @@ use Rattle.std.proofs.Common.{arith, rules, ℕ, Bool, true, false, ◌≡◌, �
 use Rattle.std.specs.Prelude.{IfErr, if◌then◌else◌}
 use Rattle.client_world.specs.{declared.limits.TheConstants.{MAX_STEPS}, WatchWorld.{WatchWorld}, World.{HostWorld}}
 use Rattle.host_run.specs.{Footprint.{ChangesOnly}, MakesTurn.{turn_answer}, Windows.{HasWindow}}
-use Rattle.host_run.proofs.{Answered.{by_exit}, ClientChanges.{kept}, WindowStarts.{no_starts}}
+use Rattle.host_run.proofs.{Runs.{by_exit}, Touches.{kept}, WindowStarts.{no_starts}}
 use Rattle.timer_run.specs.{Rounds.{MakesRound, round_footprint, timed}, Timer.{TimerState, timer_answer, timer_footprint, timer_part}}
-use Rattle.timer_run.proofs.{Parts.{answered_exit, answered_on, part_every, part_steps}, RoundParts.{exit_made, interrupt_made}}
-use Rattle.timer_run.proofs.RoundParts.{turn_changes, turn_from, turn_made}
+use Rattle.timer_run.proofs.RoundParts.{answered_exit, answered_on, part_every, part_steps, exit_made, interrupt_made, turn_changes}
+use Rattle.timer_run.proofs.RoundParts.{turn_from, turn_made}
 use Rattle.watch_run.specs.Turn.{watch_footprint}
 use Rattle.timer_run.proofs.rounds.next_round.Goals as goal
 

@@ -1,6 +1,6 @@
 use Rattle.std.proofs.Common.{arith, refl, sym}
 use Rattle.client_world.specs.WatchWorld.{WatchWorld}
-use Rattle.host_run.proofs.ClientChanges.{kept}
+use Rattle.host_run.proofs.Touches.{kept}
 use Rattle.timer_run.specs.Rounds.{round_footprint, timed}
 use Rattle.timer_run.proofs.RoundParts.{round_over}
 use Rattle.timer_run.proofs.rounds.round_with_timer.Goals as goal

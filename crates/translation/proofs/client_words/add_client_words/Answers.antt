@@ -1,5 +1,5 @@
 use Rattle.std.proofs.Common.{arith}
-use Rattle.translation.proofs.Words.{readable_more, words_more}
+use Rattle.translation.proofs.StackWords.{readable_more, words_more}
 use Rattle.translation.proofs.client_words.add_client_words.Goals as goal
 
 pub loop-k-preserved : goal.loop-k-preserved

@@ -1,4 +1,4 @@
-use Rattle.translation.proofs.{SoundCalls.{sound_begin, sound_reflect}, SoundReturns.{sound_end}}
+use Rattle.translation.proofs.SoundCalls.{sound_begin, sound_reflect, sound_end}
 use Rattle.translation.proofs.laws.every_call_is_sound.Goals as goal
 
 pub returns-clause-begin : goal.returns-clause-begin

@@ -1,4 +1,4 @@
-use Rattle.translation.proofs.Stacked.{begin_pushes, end_pops, reflect_pushes}
+use Rattle.translation.proofs.KeptWorld.{begin_pushes, end_pops, reflect_pushes}
 use Rattle.translation.proofs.laws.every_call_is_stacked.Goals as goal
 
 pub returns-clause-begin : goal.returns-clause-begin

@@ -1,5 +1,5 @@
 use Rattle.std.proofs.Common.{arith}
-use Rattle.translation.proofs.Reaches.{first_reachable}
+use Rattle.translation.proofs.PutPart.{first_reachable}
 use Rattle.translation.proofs.structure.write_results.Goals as goal
 
 pub write_bytes-requires-clause-reachable : goal.write_bytes-requires-clause-reachable

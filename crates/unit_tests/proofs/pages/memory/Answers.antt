@@ -4,7 +4,7 @@ use Rattle.guest_ram.specs.Bytes.{put, dword, dword_bytes}
 use Rattle.guest_ram.proofs.PutLaws.{length-put, dword_put, dword_put_other}
 use Rattle.page_tables.specs.Mapping.{HasTables, IsCovered, IsUnmapped}
 use Rattle.unit_tests.specs.declared.pages.TheConstants.{PAGE}
-use Rattle.page_tables.proofs.BlankTables.{dword_zero}
+use Rattle.page_tables.proofs.HostDirectory.{dword_zero}
 use Rattle.unit_tests.proofs.FirstTables.{one_table}
 use Rattle.unit_tests.proofs.pages.memory.Goals as goal
 

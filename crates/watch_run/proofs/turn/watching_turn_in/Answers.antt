@@ -1,4 +1,4 @@
-use Rattle.host_run.proofs.Answered.{by_exit}
+use Rattle.host_run.proofs.Runs.{by_exit}
 use Rattle.watch_run.proofs.turn.watching_turn_in.Goals as goal
 
 pub returns-in-Ok-clause-turn : goal.returns-in-Ok-clause-turn

@@ -1,7 +1,7 @@
 use Rattle.std.proofs.Common.{◌∙◌, ap}
 use Rattle.client_world.specs.WatchWorld.{WatchWorld}
 use Rattle.host_run.specs.View.{HostView}
-use Rattle.dpmi_cli.proofs.PairAnswers.{close_is}
+use Rattle.dpmi_cli.proofs.RunAnswers.{close_is}
 use Rattle.dpmi_cli.proofs.watched_host.WatchedHostTurns.close.Goals as goal
 
 pub returns : goal.returns

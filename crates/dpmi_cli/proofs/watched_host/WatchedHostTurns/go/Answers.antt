@@ -4,7 +4,7 @@ use Rattle.client_world.specs.WatchWorld.{WatchWorld}
 use Rattle.host_run.proofs.WindowStarts.{no_starts}
 use Rattle.pair_run.proofs.OwnRuns.{turns_none}
 use Rattle.watch_run.specs.Turn.{turn_with_watchpoints}
-use Rattle.dpmi_cli.proofs.PairAnswers.{all_turns, next_turn}
+use Rattle.dpmi_cli.proofs.RunAnswers.{all_turns, next_turn}
 use Rattle.dpmi_cli.proofs.watched_host.WatchedHostTurns.go.Goals as goal
 
 pub returns-in-Some-clause-world : goal.returns-in-Some-clause-world

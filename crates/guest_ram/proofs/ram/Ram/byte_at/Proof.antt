@@ -4,7 +4,7 @@ use Rattle.guest_ram.proofs.Steps.{◌$◌, ◌∵◌, !, qed, done, move, keep,
 use Rattle.guest_ram.proofs.Steps.{suffices, frame, enter, of_opd, bin, load, look, stop, fld, first, blocks, exec, returns, alloc_all}
 use Rattle.guest_ram.proofs.Steps.{pass_all, free_all, look_at, get, through, sets, env, u8, yes, uint_vals, uint_Tells, plain, nothing}
 use Rattle.guest_ram.proofs.Steps.{heard, Stays, walk_of, says, stay_dropped, Goes-dropped, ends_at}
-use Rattle.guest_ram.proofs.{ram.Ram.byte_at.Statement.{statement}, ram.Ram.TheLaws.{the_row_laws}, ByteCells.{byte_lent}}
+use Rattle.guest_ram.proofs.{ram.Ram.byte_at.Statement.{statement}, ram.Ram.TheLaws.{the_row_laws}, Insides.{byte_lent}}
 use Rattle.std.proofs.{Common.{subst, length, get_or, ◌<◌, ◌+◌, ◌^◌, w32, w64}, Words.{pointer_in, pointer_out}, VecSteps.Shapes.{after}}
 use mir.Val.{Val, vptr}
 use base.Fml.{fhide, Lft}

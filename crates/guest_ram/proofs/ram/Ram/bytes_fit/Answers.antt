@@ -1,6 +1,6 @@
 use Rattle.std.proofs.Common.{subst}
 use Rattle.guest_ram.specs.Bytes.{AreBytes}
-use Rattle.guest_ram.proofs.FitLaws.{fits_at}
+use Rattle.guest_ram.proofs.ByteLists.{fits_at}
 use Rattle.guest_ram.proofs.ram.Ram.bytes_fit.Goals as goal
 
 pub returns : goal.returns

@@ -5,10 +5,9 @@ use Rattle.guest_ram.proofs.Steps.{fsplit, fsplit3, fjoin, fpick, fpack, feq_i, 
 use Rattle.guest_ram.proofs.Steps.{unit_lit, lit, lit<, load, store, stop, fld, assigns_last, first, blocks, exec, returns, alloc_all}
 use Rattle.guest_ram.proofs.Steps.{pass_all, free_all, look_at, get, through, sets, env, u8, yes, shows, uint_vals, uint_Tells, Ptr}
 use Rattle.guest_ram.proofs.Steps.{lies_at, in_a_block, MutRef, mut_vals, mut_Tells, plain, nothing, opens, closes, heard, peeks, Stays}
-use Rattle.guest_ram.proofs.{Steps.{walk_of, stay_ref, stay_dropped, Goes-ref, Goes-dropped, ends_at}, PutLaws.{length-put}}
-use Rattle.guest_ram.proofs.{RunLaws.{copies_more, no_copies}, ByteCells.{rest, byte_out, byte_in}, WalkSteps.{says2}, Insides.{Held}}
-use Rattle.guest_ram.proofs.{Insides.{Words, with_copies, held_copies}, ram.Ram.fill.Statement.{statement}}
-use Rattle.guest_ram.proofs.ram.Ram.TheInside.TheLaws.{lowers}
+use Rattle.guest_ram.proofs.{Steps.{walk_of, stay_ref, stay_dropped, Goes-ref, Goes-dropped, ends_at}, PutLaws.{length-put, copies_more}}
+use Rattle.guest_ram.proofs.{PutLaws.{no_copies}, Insides.{rest, byte_out, byte_in, Held, Words, with_copies, held_copies}}
+use Rattle.guest_ram.proofs.{WalkSteps.{says2}, ram.Ram.fill.Statement.{statement}, ram.Ram.TheInside.TheLaws.{lowers}}
 use Rattle.std.proofs.Common.{subst, length, get_or, set, ◌<◌, ◌≤◌, ◌+◌, ◌*◌, ◌^◌, w32, w64, arith, ◌-◌, nltb→le, ltb→lt}
 use Rattle.std.proofs.VecSteps.Shapes.{after, head}
 use seplogic.Ra.Ura.{Ura}

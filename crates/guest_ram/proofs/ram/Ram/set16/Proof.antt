@@ -5,9 +5,9 @@ use Rattle.guest_ram.proofs.Steps.{join, fsplit, fsplit3, fjoin, fpick, fpack, f
 use Rattle.guest_ram.proofs.Steps.{bin, unit_lit, lit, load, store, stop, fld, assigns, assigns_last, first, blocks, exec, returns}
 use Rattle.guest_ram.proofs.Steps.{alloc_all, pass_all, free_all, look_at, get, through, sets, env, u8, yes, shows, uint_vals, uint_Tells}
 use Rattle.guest_ram.proofs.Steps.{Ptr, lies_at, in_a_block, MutRef, mut_vals, mut_Tells, plain, nothing, opens, closes, heard, peeks}
-use Rattle.guest_ram.proofs.{Steps.{Stays, walk_of, stay_ref, stay_dropped, Goes-ref, Goes-dropped, ends_at}, ByteCells.{rest, byte_out}}
-use Rattle.guest_ram.proofs.{ByteCells.{byte_in}, WalkSteps.{says2}, Insides.{Held, with_byte, held_set}}
-use Rattle.guest_ram.proofs.{ram.Ram.set16.Statement.{statement}, ram.Ram.TheInside.TheLaws.{lowers}}
+use Rattle.guest_ram.proofs.{Steps.{Stays, walk_of, stay_ref, stay_dropped, Goes-ref, Goes-dropped, ends_at}, Insides.{rest, byte_out}}
+use Rattle.guest_ram.proofs.{Insides.{byte_in, Held, with_byte, held_set}, WalkSteps.{says2}, ram.Ram.set16.Statement.{statement}}
+use Rattle.guest_ram.proofs.ram.Ram.TheInside.TheLaws.{lowers}
 use Rattle.std.proofs.Common.{subst, length, get_or, set, length-set, ◌<◌, ◌+◌, ◌*◌, ◌^◌, ◌/◌, ◌%◌, w16, w32, arith}
 use Rattle.std.proofs.VecSteps.Shapes.{after}
 use mir.Syntax.{ty_int}

@@ -5,8 +5,8 @@ use Rattle.guest_ram.proofs.Steps.{fsplit3, fjoin, fpick, fpack, feq_i, rewrite,
 use Rattle.guest_ram.proofs.Steps.{load, store, stop, fld, assigns_last, first, blocks, exec, returns, alloc_all, pass_all, free_all}
 use Rattle.guest_ram.proofs.Steps.{look_at, get, through, sets, env, u8, yes, shows, uint_vals, uint_Tells, Ptr, lies_at, in_a_block}
 use Rattle.guest_ram.proofs.Steps.{MutRef, mut_vals, mut_Tells, plain, nothing, opens, closes, heard, peeks, Stays, walk_of, stay_ref}
-use Rattle.guest_ram.proofs.{Steps.{stay_dropped, Goes-ref, Goes-dropped, ends_at}, ByteCells.{rest, byte_out, byte_in}, WalkSteps.{says2}}
-use Rattle.guest_ram.proofs.{Insides.{Held, with_byte, held_set}, ram.Ram.set8.Statement.{statement}, ram.Ram.TheInside.TheLaws.{lowers}}
+use Rattle.guest_ram.proofs.{Steps.{stay_dropped, Goes-ref, Goes-dropped, ends_at}, Insides.{rest, byte_out, byte_in, Held, with_byte}}
+use Rattle.guest_ram.proofs.{Insides.{held_set}, WalkSteps.{says2}, ram.Ram.set8.Statement.{statement}, ram.Ram.TheInside.TheLaws.{lowers}}
 use Rattle.std.proofs.{Common.{subst, length, get_or, set, length-set, ◌<◌, ◌+◌, ◌*◌, ◌^◌, w32, arith}, VecSteps.Shapes.{after}}
 use mir.Syntax.{ty_int}
 use mir.Val.{Val}

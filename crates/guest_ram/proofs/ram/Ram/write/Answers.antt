@@ -1,6 +1,6 @@
 use Rattle.std.proofs.Common.{◌≡◌, ◌+◌, ◌*◌, ◌/◌, ℕ, List, length, get_or, refl, sym, ap, ◌∙◌, set, arith}
 use Rattle.guest_ram.specs.Bytes.{put, region, word_of, with_word, dword, dword_bytes}
-use Rattle.guest_ram.proofs.RunLaws.{no_region, taken_more, all_taken, word_more, dword_more}
+use Rattle.guest_ram.proofs.PutLaws.{no_region, taken_more, all_taken, word_more, dword_more}
 use Rattle.guest_ram.proofs.ram.Ram.write.Goals as goal
 
 pub loop-k-init : goal.loop-k-init

@@ -1,7 +1,7 @@
 use Rattle.std.proofs.Common.{◌+◌, ◌≤◌, subst, List, length, arith}
 use Rattle.client_world.specs.{declared.dos_memory.DosEntry.{DosEntry}, DosMemory.{IsArena}}
 use Rattle.guest_space.specs.Arena.{with_replaced_entries}
-use Rattle.guest_space.proofs.{ArenaCalls.{entries_after, put_there}, ArenaWrites.{with_arena, arena_of}, Insides.{processor_of}}
+use Rattle.guest_space.proofs.{DosRunCalls.{entries_after, put_there}, ArenaWrites.{with_arena, arena_of}, Insides.{processor_of}}
 use Rattle.guest_space.proofs.machine.Machine.arena_put.Goals as goal
 
 pub put_entries-requires-clause-within : goal.put_entries-requires-clause-within

@@ -4,7 +4,7 @@ use Rattle.client_world.specs.DosMemory.{IsArena}
 use Rattle.guest_ram.specs.Bytes.{put}
 use Rattle.host_memory.specs.Headers.{with_headers}
 use Rattle.guest_space.specs.{Arena.{arena_bytes, with_replaced_entries}, DosRuns.{rows_of_run, with_run_bytes}}
-use Rattle.guest_space.proofs.{ArenaCalls.{put_there}, ArenaWrites.{arena_of, entries_holds, with_arena}, DosRunCalls.{run_machine}}
+use Rattle.guest_space.proofs.{DosRunCalls.{put_there, run_machine}, ArenaWrites.{arena_of, entries_holds, with_arena}}
 use Rattle.guest_space.proofs.Insides.{processor_of}
 use Rattle.guest_space.proofs.machine.Machine.arena_put_dpmi.Goals as goal
 

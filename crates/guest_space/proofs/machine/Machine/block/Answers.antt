@@ -1,4 +1,4 @@
-use Rattle.guest_space.proofs.{BlockReads.{free_row, some_row}, Insides.{processor_of}}
+use Rattle.guest_space.proofs.{BlockCalls.{free_row, some_row}, Insides.{processor_of}}
 use Rattle.guest_space.proofs.machine.Machine.block.Goals as goal
 
 pub returns-then-pages-eq0 : goal.returns-then-pages-eq0

@@ -1,5 +1,5 @@
 use Rattle.std.proofs.Common.{◌∙◌, sym, arith, length-append}
-use Rattle.host_memory.proofs.WorldParts.{regs_is}
+use Rattle.host_memory.proofs.Parts.{regs_is}
 use Rattle.guest_space.proofs.Codes.{whole_code, more_code, code_ends, code_full}
 use Rattle.guest_space.proofs.machine.Machine.code.Goals as goal
 

@@ -1,5 +1,5 @@
 use Rattle.std.proofs.Common.{◌∙◌, sym, arith}
-use Rattle.guest_space.proofs.Fars.{reachable_checked, not_reachable}
+use Rattle.guest_space.proofs.FarLaws.{reachable_checked, not_reachable}
 use Rattle.guest_space.proofs.machine.Machine.far_ok.Goals as goal
 
 pub returns-in-Ok : goal.returns-in-Ok

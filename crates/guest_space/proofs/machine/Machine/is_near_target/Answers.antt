@@ -1,4 +1,4 @@
-use Rattle.guest_space.proofs.NearTargets.{near_target}
+use Rattle.guest_space.proofs.Codes.{near_target}
 use Rattle.guest_space.proofs.machine.Machine.is_near_target.Goals as goal
 
 pub returns-in-Some : goal.returns-in-Some

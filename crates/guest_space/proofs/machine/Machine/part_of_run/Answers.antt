@@ -1,5 +1,5 @@
 use Rattle.std.proofs.Common.{◌<◌, ◌*◌, List, ℕ, Ok, ap, ◌∙◌, sym, arith}
-use Rattle.guest_space.proofs.{ReadRuns.{part_is_read}, WriteRuns.{run_in_memory, run_is_small}, Insides.{machine_inside}}
+use Rattle.guest_space.proofs.{WriteRuns.{part_is_read, run_in_memory, run_is_small}, Insides.{machine_inside}}
 use Rattle.guest_space.proofs.machine.Machine.part_of_run.Goals as goal
 
 pub overflow_add-at : goal.overflow_add-at

@@ -1,4 +1,4 @@
-use Rattle.guest_space.proofs.QuickLooks.{loaded_is_read}
+use Rattle.guest_space.proofs.Accesses.{loaded_is_read}
 use Rattle.guest_space.proofs.machine.Machine.read_quickly.Goals as goal
 
 pub returns : goal.returns

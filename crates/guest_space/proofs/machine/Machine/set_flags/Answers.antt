@@ -1,6 +1,6 @@
 use Rattle.std.proofs.Common.{arith}
 use Rattle.client_world.specs.declared.registers.Regs.{Regs}
-use Rattle.guest_space.proofs.{ChangedRegs.{changed_regs}, OwnParts.{regs_sound}}
+use Rattle.guest_space.proofs.OwnParts.{changed_regs, regs_sound}
 use Rattle.guest_space.proofs.machine.Machine.set_flags.Goals as goal
 
 pub invariant_of-self : goal.invariant_of-self

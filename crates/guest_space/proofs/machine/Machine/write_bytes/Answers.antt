@@ -1,5 +1,5 @@
 use Rattle.std.proofs.Common.{length, arith}
-use Rattle.guest_space.proofs.{Fars.{reachable_linear, far_written_linear, reachable_not_refused}, MachineLaws.{far_made}}
+use Rattle.guest_space.proofs.{FarLaws.{reachable_linear, far_written_linear, reachable_not_refused}, MachineLaws.{far_made}}
 use Rattle.guest_space.proofs.machine.Machine.write_bytes.Goals as goal
 
 pub put-requires-clause-writable : goal.put-requires-clause-writable

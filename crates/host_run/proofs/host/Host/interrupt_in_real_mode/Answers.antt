@@ -1,7 +1,7 @@
 use Rattle.std.proofs.Common.{◌≡◌, ap, subst}
 use Rattle.interrupts.specs.Worlds.{world_interrupt}
 use Rattle.host_run.specs.{Turn.{after_interrupt}, View.{machine_view}}
-use Rattle.host_run.proofs.ClientChanges.{HasLaws, interrupt_or_ends}
+use Rattle.host_run.proofs.Touches.{HasLaws, interrupt_or_ends}
 use Rattle.host_run.proofs.host.Host.interrupt_in_real_mode.Goals as goal
 
 pub returns-clause-bytes : goal.returns-clause-bytes

@@ -4,7 +4,7 @@ use Rattle.host_memory.specs.View.{MachineView}
 use Rattle.interrupts.specs.Worlds.{world_interrupt}
 use Rattle.fault_service.specs.ByMode.{delivery}
 use Rattle.host_run.specs.{Footprint.{ChangesOnly, after_client_interrupt, interrupt_footprint}, View.{machine_view}}
-use Rattle.host_run.proofs.ClientChanges.{interrupted_changes, raised_or_ends}
+use Rattle.host_run.proofs.Touches.{interrupted_changes, raised_or_ends}
 use Rattle.host_run.proofs.host.Host.interrupt_to_own_handler.Goals as goal
 
 -- of a machine with these bytes after the interrupt

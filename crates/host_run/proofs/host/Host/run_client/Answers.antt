@@ -1,6 +1,6 @@
 use Rattle.std.proofs.Common.{◌≡◌, ap, subst}
 use Rattle.host_run.specs.{Turn.{after_next_instruction}, View.{machine_view}}
-use Rattle.host_run.proofs.ClientChanges.{HasLaws, changes_or_ends}
+use Rattle.host_run.proofs.Touches.{HasLaws, changes_or_ends}
 use Rattle.host_run.proofs.host.Host.run_client.Goals as goal
 
 pub returns-clause-bytes : goal.returns-clause-bytes

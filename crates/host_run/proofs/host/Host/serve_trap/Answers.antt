@@ -1,5 +1,5 @@
-use Rattle.host_run.proofs.KindModes.{call_return_is_real, callback_is_real, callback_return_is_protected, entry_is_real}
-use Rattle.host_run.proofs.KindModes.{switch_is_protected, switch_is_real, vector_is_protected, vector_is_real}
+use Rattle.host_run.proofs.NoTraps.{call_return_is_real, callback_is_real, callback_return_is_protected, entry_is_real, switch_is_protected}
+use Rattle.host_run.proofs.NoTraps.{switch_is_real, vector_is_protected, vector_is_real}
 use Rattle.host_run.proofs.host.Host.serve_trap.Goals as goal
 
 pub reach_vector-requires-clause-real : goal.reach_vector-requires-clause-real

@@ -1,5 +1,5 @@
 use Rattle.std.proofs.{Common.{◌≡◌, ℕ, ◌*◌, ◌-◌, ◌%◌, ◌^◌, ◌≤◌, ap, sym, ◌∙◌, arith}, lemmas.Nat.{mul-mod_second}}
-use Rattle.insn_decode.proofs.SameStart.{same_start}
+use Rattle.insn_decode.proofs.Answering.{same_start}
 use Rattle.insn_decode.proofs.memo.Start.new.Goals as goal
 
 pub returns : goal.returns

@@ -1,6 +1,6 @@
 use Rattle.std.proofs.Common.{refl, arith}
 use Rattle.insn_plan.specs.Act.{value_of}
-use Rattle.insn_plan.proofs.GivenOperands.{source_given}
+use Rattle.insn_plan.proofs.Moved.{source_given}
 use Rattle.insn_plan.proofs.accesses.Accesses.operand.Goals as goal
 
 pub returns-in_default : goal.returns-in_default

@@ -1,6 +1,6 @@
 use Rattle.std.proofs.Common.{rules}
 use Rattle.watch_run.specs.Hits.{with_hits}
-use Rattle.watch_run.proofs.NoteLaws.{marked_none, none_due, step_marked, step_due, end_marked, end_due}
+use Rattle.watch_run.proofs.HitLaws.{marked_none, none_due, step_marked, step_due, end_marked, end_due}
 use Rattle.watch_run.proofs.watch.Watches.note_hits.Goals as goal
 
 pub loop-k-preserved : goal.loop-k-preserved

@@ -1,30 +1,105 @@
--- A service leads from a sound world to a sound one.
-use Rattle.std.proofs.Common.{◌≡◌, ◌≢◌, ◌≤◌, ◌<◌, ◌+◌, ◌*◌, ◌^◌, ℕ, zero, suc, Bool, true, false, not, List, refl, sym, subst, arith}
-use Rattle.std.proofs.{Common.{slice_index, slice_set, Option, None, Some, nat_lt}, lemmas.Bool.{ltb-false, not-false, or_parts}}
+-- What is true of each service is true of the service of every function number: it changes registers, memory and descriptors alone, and
+-- leads from a sound world to a sound one.
+use Rattle.std.proofs.Common.{ℕ, ◌≡◌, ◌∙◌, refl, sym, ap, Option, None, Some, ◌≢◌, ◌≤◌, ◌<◌, ◌+◌, ◌*◌, ◌^◌, zero, suc, Bool, true, false}
+use Rattle.std.proofs.{Common.{not, List, subst, arith, slice_index, slice_set, nat_lt}, lemmas.Bool.{ltb-false, not-false, or_parts}}
 use Rattle.std.proofs.lemmas.Bool.{true≢false}
-use Rattle.std.specs.Option.{is_some}
+use Rattle.client_world.specs.{World.{World}, Selector.{Row, FitsRow, index_of, is_local, row_at_index, row_of_selector}, Services.{bx, cx}}
+use Rattle.client_world.specs.Services.{desc_of, es_di, dx, is_changeable, is_changeable_origin, two_words}
 use Rattle.client_world.specs.{declared.descriptors.Desc.{Desc}, declared.descriptors.Origin.{Origin}}
 use Rattle.client_world.specs.declared.descriptors.Origin.TheVariants.{Own, Segment}
 use Rattle.client_world.specs.{declared.host_frames.TheConstants.{FIRST_FREE_DESCRIPTOR}, declared.memory_map.TheConstants.{PARAGRAPH_SIZE}}
 use Rattle.client_world.specs.{declared.registers.Mode.TheVariants.{Protected}, Descriptor.{FitsDescriptor}, FreeRuns.{IsFreeRunOf}}
-use Rattle.client_world.specs.{Registers.{has_bit}, Selector.{Row, FitsRow, index_of, is_local, row_at_index, row_of_selector}}
-use Rattle.client_world.specs.{Services.{bx, cx, dx, desc_of, es_di, is_changeable, is_changeable_origin, two_words}, Soundness.{IsSound}}
-use Rattle.client_world.specs.World.{World}
+use Rattle.client_world.specs.{Registers.{has_bit}, Soundness.{IsSound}}
+use Rattle.service_rows.specs.{Reasons.{Service, unsupported, first_reason}, FreeRun.{first_free_run}, Rows.{data_at, with_row}}
+use Rattle.service_rows.proofs.{AnswerLaws.{if_has, of_answer, no_reason, sound_ax}, RunLaws.{free_run_of}, WidthLaws.{protected_width}}
+use Rattle.desc_services.specs.Rows.{allocate_descriptors, free_descriptor, segment_to_descriptor, selector_increment, get_segment_base}
+use Rattle.desc_services.specs.Rows.{set_segment_base, set_segment_limit, set_access_rights, create_alias, get_descriptor, set_descriptor}
+use Rattle.desc_services.specs.Rows.{allocate_specific, descriptor_function, with_new_alias, with_new_run, with_segment, segment_index}
+use Rattle.desc_services.specs.Rows.{with_new_segment, descriptor_service, alias_of, fresh, is_freeable_origin, is_freeable_row}
+use Rattle.desc_services.specs.Rows.{desc_with_limit, packed_of, row_with_desc, with_base, with_desc, with_limit, with_rights, with_run}
+use Rattle.guest_space.specs.{Transfer.{HasOtherMemory}, Far.{far_bytes}}
+use Rattle.guest_space.proofs.{FarLaws.{other_far_put, sound_far_put}, SoundLists.{far_are_bytes}}
+use Rattle.std.specs.Option.{is_some}
 use Rattle.client_world.proofs.SoundWrites.{sound_general}
 use Rattle.desc_table.specs.Unpacked.{kind_of}
-use Rattle.guest_space.specs.Far.{far_bytes}
-use Rattle.service_rows.specs.{FreeRun.{first_free_run}, Reasons.{Service, first_reason, unsupported}, Rows.{data_at, with_row}}
-use Rattle.desc_services.specs.Rows.{with_new_alias, alias_of, descriptor_function, free_descriptor, fresh, get_segment_base}
-use Rattle.desc_services.specs.Rows.{get_descriptor, is_freeable_origin, is_freeable_row, desc_with_limit, with_new_run}
-use Rattle.desc_services.specs.Rows.{allocate_descriptors, create_alias, allocate_specific, segment_to_descriptor, packed_of, row_with_desc}
-use Rattle.desc_services.specs.Rows.{with_segment, segment_index, with_new_segment, descriptor_service, set_segment_base, set_segment_limit}
-use Rattle.desc_services.specs.Rows.{set_descriptor, set_access_rights, selector_increment, with_base, with_desc, with_limit, with_rights}
-use Rattle.desc_services.specs.Rows.{with_run}
-use Rattle.service_rows.proofs.{AnswerLaws.{no_reason, of_answer, sound_ax}, RunLaws.{free_run_of}, WidthLaws.{protected_width}}
-use Rattle.guest_space.proofs.{FarPuts.{sound_far_put}, SoundBytes.{far_are_bytes}}
-use Rattle.desc_services.proofs.{EachService.{of_each_service}, FarBytes.{packed_bytes, unpacked_fits}, PutLaws.{changeable_plain}}
-use Rattle.desc_services.proofs.PutLaws.{may_change, may_free, may_make_low, may_make_at, may_redescribe, row_of_held}
-use Rattle.desc_services.proofs.{SegmentLaws.{may_make_segment_at}, WithRun.{free_tail, with_none, with_more}}
+use Rattle.desc_services.proofs.{FarBytes.{packed_bytes, unpacked_fits}, PutLaws.{changeable_plain, may_change, may_free, may_make_low}}
+use Rattle.desc_services.proofs.{PutLaws.{may_make_at, may_redescribe, row_of_held, may_make_segment_at}, WithRun.{free_tail, with_none}}
+use Rattle.desc_services.proofs.WithRun.{with_more}
+
+pub record Each (P : Service → Type 0) (w : World) : Type 0 where
+  pub f0 : P (allocate_descriptors w)
+  pub f1 : P (free_descriptor w)
+  pub f2 : P (segment_to_descriptor w)
+  pub f3 : P (selector_increment w)
+  pub f6 : P (get_segment_base w)
+  pub f7 : P (set_segment_base w)
+  pub f8 : P (set_segment_limit w)
+  pub f9 : P (set_access_rights w)
+  pub fA : P (create_alias w)
+  pub fB : P (get_descriptor w)
+  pub fC : P (set_descriptor w)
+  pub fD : P (allocate_specific w)
+  pub other : P (unsupported w)
+
+pub of_each_service : (P : Service → Type 0) (w : World) → Each P w → (ax : ℕ) → P (descriptor_function ax w)
+unfolding descriptor_function
+of_each_service P w e ax =
+    if_has P _ _ _ e.f0 (if_has P _ _ _ e.f1 (if_has P _ _ _ e.f2 (if_has P _ _ _ e.f3 (if_has P _ _ _ e.f6 (if_has P _ _ _ e.f7
+    (if_has P _ _ _ e.f8
+    (if_has P _ _ _ e.f9 (if_has P _ _ _ e.fA (if_has P _ _ _ e.fB (if_has P _ _ _ e.fC (if_has P _ _ _ e.fD e.other)))))))))))
+
+abbrev pub Kept : World → World → Type 0
+Kept w v = v ≡ record w { regs = v.regs; dos = v.dos; blocks = v.blocks; descriptors = v.descriptors }
+
+-- what changes memory alone keeps the rest
+kept_memory : (w v : World) → HasOtherMemory w v → Kept w v
+kept_memory w v e = e ∙ ap (λ (x : World). record w { regs = x.regs; dos = v.dos; blocks = v.blocks; descriptors = x.descriptors }) (w_is e)
+  where
+    w_is : HasOtherMemory w v → record w { dos = v.dos; blocks = v.blocks } ≡ v
+    w_is e = sym e
+
+kept_made : (w : World) (o : Option ℕ) → Kept w (with_new_run o w)
+kept_made w None = refl
+kept_made w (Some first) = refl
+
+kept_alias : (w : World) (o : Option ℕ) (row : Row) → Kept w (with_new_alias o row w)
+kept_alias w None row = refl
+kept_alias w (Some first) None = refl
+kept_alias w (Some first) (Some row) = refl
+
+kept_segment_made : (w : World) (o : Option ℕ) → Kept w (with_new_segment o w)
+kept_segment_made w None = refl
+kept_segment_made w (Some first) = refl
+
+kept_segment : (w : World) (o : Option ℕ) → Kept w (with_segment o w)
+kept_segment w None = kept_segment_made w (first_free_run w.descriptors 1)
+kept_segment w (Some index) = refl
+
+kept_after : (ax : ℕ) (w : World) → Kept w (descriptor_function ax w).after
+unfolding allocate_descriptors free_descriptor segment_to_descriptor selector_increment get_segment_base set_segment_base set_segment_limit
+    set_access_rights create_alias get_descriptor set_descriptor allocate_specific unsupported
+kept_after ax w = of_each_service (λ (s : Service). Kept w s.after) w (record {
+  f0 = kept_made w (first_free_run w.descriptors (cx w));
+  f1 = refl;
+  f2 = kept_segment w (segment_index w.descriptors (bx w));
+  f3 = refl;
+  f6 = refl;
+  f7 = refl;
+  f8 = refl;
+  f9 = refl;
+  fA = kept_alias w (first_free_run w.descriptors 1) (desc_of w (bx w));
+  fB = kept_memory w _ (other_far_put w (es_di w) 8 _);
+  fC = refl;
+  fD = refl;
+  other = refl;
+}) ax
+
+pub kept_service : (ax : ℕ) (w : World) → Kept w (descriptor_service ax w).world
+unfolding descriptor_service
+kept_service ax w = of_answer (Kept w) (first_reason (descriptor_function ax w).reasons) w (descriptor_function ax w).after refl (λ n. refl)
+    (λ none. kept_after ax w)
+
+-- ---- soundness
 
 -- ---- a descriptor with other fields
 

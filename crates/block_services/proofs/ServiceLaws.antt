@@ -1,24 +1,71 @@
--- A service leads from a sound world to a sound one.
-use Rattle.std.proofs.Common.{◌≡◌, ◌≢◌, ◌∙◌, ◌≤◌, ◌<◌, ◌+◌, ◌-◌, ◌%◌, ℕ, zero, suc, Bool, true, false, List, [], ◌∷◌, length, slice_set}
-use Rattle.std.proofs.Common.{length-set, refl, arith, Option, None, Some, nat_eq, get_or-set_same, get_or-set_other}
+-- What is true of each service is true of the one that is asked for: it changes registers, memory and pageable pages alone, and leads from
+-- a sound world to a sound one.
+use Rattle.std.proofs.Common.{ℕ, arith, ◌≡◌, refl, Option, None, Some, ◌≢◌, ◌∙◌, ◌≤◌, ◌<◌, ◌+◌, ◌-◌, ◌%◌, zero, suc, Bool, true, false}
+use Rattle.std.proofs.Common.{List, [], ◌∷◌, length, slice_set, length-set, nat_eq, get_or-set_same, get_or-set_other}
 use Rattle.std.proofs.{lemmas.Bool.{eqb-false, ltb-false}, lemmas.List.{get_or_past, set_past}}
+use Rattle.client_world.specs.{World.{World, MemoryBlock, block_at}, declared.limits.TheConstants.{MAX_BLOCKS}}
+use Rattle.client_world.specs.{declared.registers.Mode.TheVariants.{Protected}, Services.{es_di}, Soundness.{IsSound, pages_of_block}}
+use Rattle.service_rows.specs.Reasons.{Service, unsupported, first_reason}
+use Rattle.service_rows.proofs.{AnswerLaws.{if_has, of_answer, no_reason, sound_ax}, RunLaws.{first_is}, WidthLaws.{protected_width}}
+use Rattle.block_services.specs.Rows.{allocate_block, mark_pageable, block_function, discard_pages, relock_pages, free_block}
+use Rattle.block_services.specs.Rows.{free_memory_information, lock_pages, mark_paging_candidates, page_size, resize_block, unlock_pages}
+use Rattle.block_services.specs.Rows.{with_new_block, with_resized_block, block_service, asked_pages, bx_cx, first_page, free_pages}
+use Rattle.block_services.specs.{Rows.{new_base, page_count, si_di, with_blocks}, Free.{free_numbers, free_table, largest_new_block}}
+use Rattle.block_services.specs.{Free.{with_dwords}, Gaps.{first_gap, lowest_handle}, Pages.{with_pages}}
+use Rattle.guest_space.proofs.{FarLaws.{other_far_put, sound_far_put}, SoundLists.{IsSound-vectors}}
 use Rattle.std.specs.Option.{is_none}
-use Rattle.client_world.specs.{declared.limits.TheConstants.{MAX_BLOCKS}, declared.registers.Mode.TheVariants.{Protected}, Services.{es_di}}
-use Rattle.client_world.specs.{Soundness.{IsSound, pages_of_block}, World.{World, MemoryBlock, block_at}}
 use Rattle.client_world.proofs.SoundWrites.{IsSound-regs}
 use Rattle.guest_ram.specs.{Bytes.{AreBytes, dword_bytes, put}, Listed.{copies}}
 use Rattle.guest_ram.proofs.{ListedLaws.{at_copies, length-copies}, ByteLists.{bytes_dword}}
-use Rattle.guest_space.proofs.{SoundLists.{IsSound-vectors}, FarPuts.{sound_far_put}}
 use Rattle.block_memory.proofs.SizedSound.{sound_blocks}
-use Rattle.service_rows.specs.Reasons.{Service, first_reason, unsupported}
-use Rattle.service_rows.proofs.{AnswerLaws.{no_reason, of_answer, sound_ax}, IndexLaws.{first_is}, WidthLaws.{protected_width}}
-use Rattle.block_services.specs.{Free.{free_numbers, free_table, largest_new_block, with_dwords}, Gaps.{first_gap, lowest_handle}}
-use Rattle.block_services.specs.{Pages.{with_pages}, Rows.{allocate_block, mark_pageable, block_function, asked_pages, bx_cx}}
-use Rattle.block_services.specs.Rows.{discard_pages, first_page, relock_pages, free_block, free_memory_information, free_pages, lock_pages}
-use Rattle.block_services.specs.Rows.{with_new_block, mark_paging_candidates, new_base, page_count, page_size, resize_block}
-use Rattle.block_services.specs.Rows.{with_resized_block, block_service, si_di, unlock_pages, with_blocks}
-use Rattle.block_services.proofs.{EachService.{of_each_service}, GoodBlocks.{Good, changed_good, freed_good, made_good, resized_good}}
-use Rattle.block_services.proofs.{HandleLaws.{handle_within}, RoomLaws.{can_make, can_size, first_gap_is}}
+use Rattle.block_services.proofs.{GoodBlocks.{Good, changed_good, freed_good, made_good, resized_good}, SpanLists.{handle_within}}
+use Rattle.block_services.proofs.RoomLaws.{can_make, can_size, first_gap_is}
+
+pub record Each (P : Service → Type 0) (w : World) : Type 0 where
+  pub f500 : P (free_memory_information w)
+  pub f501 : P (allocate_block w)
+  pub f502 : P (free_block w)
+  pub f503 : P (resize_block w)
+  pub f600 : P (lock_pages w)
+  pub f601 : P (unlock_pages w)
+  pub f602 : P (mark_pageable w)
+  pub f603 : P (relock_pages w)
+  pub f604 : P (page_size w)
+  pub f702 : P (mark_paging_candidates w)
+  pub f703 : P (discard_pages w)
+  pub other : P (unsupported w)
+
+pub of_each_service : (P : Service → Type 0) (w : World) → Each P w → (ax : ℕ) → P (block_function ax w)
+unfolding block_function
+of_each_service P w e ax = grind (arith, if_has)
+
+abbrev pub Kept : World → World → Type 0
+Kept w v = v ≡ record w { regs = v.regs; dos = v.dos; blocks = v.blocks; pageable = v.pageable }
+
+kept_made : (w : World) (gap handle : Option ℕ) → Kept w (with_new_block gap handle w)
+kept_made w None handle = refl
+kept_made w (Some page) None = refl
+kept_made w (Some page) (Some handle) = refl
+
+kept_resized : (w : World) (base : Option ℕ) → Kept w (with_resized_block base w)
+kept_resized w None = refl
+kept_resized w (Some base) = refl
+
+kept_memory : (w v : World) → v ≡ record w { dos = v.dos; blocks = v.blocks } → Kept w v
+kept_memory w v e = grind arith
+
+kept_after : (ax : ℕ) (w : World) → Kept w (block_function ax w).after
+unfolding allocate_block mark_pageable discard_pages relock_pages free_block free_memory_information lock_pages mark_paging_candidates
+    page_size resize_block unlock_pages unsupported
+kept_after ax w =
+    of_each_service (λ (a : Service). Kept w a.after) w (grind (arith, kept_made, kept_memory, kept_resized, other_far_put)) ax
+
+pub kept_service : (ax : ℕ) (w : World) → Kept w (block_service ax w).world
+unfolding block_service
+kept_service ax w =
+    of_answer (Kept w) (first_reason (block_function ax w).reasons) w (block_function ax w).after refl (λ n. refl) (λ e. kept_after ax w)
+
+-- ---- soundness
 
 sound_general : (w : World) (b c s d : ℕ) → IsSound w → IsSound (record w { regs = record w.regs { ebx = b; ecx = c; esi = s; edi = d } })
 sound_general w b c i d s = IsSound-regs w (record w.regs { ebx = b; ecx = c; esi = i; edi = d }) s (assumption)

@@ -1,17 +1,67 @@
--- A service leads from a sound world to a sound one.
-use Rattle.std.proofs.Common.{◌∙◌, ◌+◌, ◌/◌, ◌%◌, ◌<◌, ℕ, List, arith, slice_set, length-set}
-use Rattle.client_world.specs.{declared.memory_map.TheConstants.{ROM_START}, declared.segments.FarPtr.{FarPtr}, Services.{cx, dx}}
-use Rattle.client_world.specs.{Soundness.{IsSound, SoundMegabyte}, World.{World}}
+-- What is true of each service is true of the one that is asked for: it changes registers, memory, the virtual interrupt flag and vectors
+-- alone, and leads from a sound world to a sound one.
+use Rattle.std.proofs.Common.{ℕ, ◌≡◌, refl, ◌∙◌, ◌+◌, ◌/◌, ◌%◌, ◌<◌, List, arith, slice_set, length-set}
+use Rattle.client_world.specs.{World.{World}, declared.memory_map.TheConstants.{ROM_START}, declared.segments.FarPtr.{FarPtr}}
+use Rattle.client_world.specs.{Services.{cx, dx}, Soundness.{IsSound, SoundMegabyte}}
+use Rattle.service_rows.specs.Reasons.{Service, unsupported, first_reason}
+use Rattle.service_rows.proofs.AnswerLaws.{if_has, of_answer, sound_ax}
+use Rattle.vector_services.specs.Rows.{vector_function, disable_interrupts, enable_interrupts, get_exception_vector, get_protected_vector}
+use Rattle.vector_services.specs.Rows.{get_real_vector, interrupt_state, set_exception_vector, set_protected_vector, set_real_vector}
+use Rattle.vector_services.specs.Rows.{dpmi_version, vector_service, bl, cx_dx}
 use Rattle.client_world.proofs.SoundWrites.{IsSound-dos, IsSound-vif, SoundMegabyte-set, sound_general}
 use Rattle.guest_ram.specs.Bytes.{with_word}
 use Rattle.guest_space.specs.Dos.{real_vector_address}
 use Rattle.guest_space.proofs.SoundLists.{IsSound-vectors}
-use Rattle.service_rows.specs.Reasons.{Service, first_reason, unsupported}
-use Rattle.service_rows.proofs.AnswerLaws.{of_answer, sound_ax}
-use Rattle.vector_services.specs.Rows.{vector_function, bl, cx_dx, disable_interrupts, enable_interrupts, get_exception_vector}
-use Rattle.vector_services.specs.Rows.{get_protected_vector, get_real_vector, interrupt_state, vector_service, set_exception_vector}
-use Rattle.vector_services.specs.Rows.{set_protected_vector, set_real_vector, dpmi_version}
-use Rattle.vector_services.proofs.EachService.{of_each_service}
+
+pub record Each (P : Service → Type 0) (w : World) : Type 0 where
+  pub f200 : P (get_real_vector w)
+  pub f201 : P (set_real_vector w)
+  pub f202 : P (get_exception_vector w)
+  pub f203 : P (set_exception_vector w)
+  pub f204 : P (get_protected_vector w)
+  pub f205 : P (set_protected_vector w)
+  pub f400 : P (dpmi_version w)
+  pub f900 : P (disable_interrupts w)
+  pub f901 : P (enable_interrupts w)
+  pub f902 : P (interrupt_state w)
+  pub other : P (unsupported w)
+
+pub of_each_service : (P : Service → Type 0) (w : World) → Each P w → (ax : ℕ) → P (vector_function ax w)
+unfolding vector_function
+of_each_service P w e ax =
+    if_has P _ _ _ e.f200 (if_has P _ _ _ e.f201 (if_has P _ _ _ e.f202 (if_has P _ _ _ e.f203 (if_has P _ _ _ e.f204 (if_has P _ _ _ e.f205
+    (if_has P _ _ _ e.f400 (if_has P _ _ _ e.f900 (if_has P _ _ _ e.f901 (if_has P _ _ _ e.f902 e.other)))))))))
+
+abbrev pub Kept : World → World → Type 0
+Kept w v = v ≡ record w {
+  regs = v.regs;
+  vif = v.vif;
+  dos = v.dos;
+  interrupt_vectors = v.interrupt_vectors;
+  exception_vectors = v.exception_vectors;
+}
+
+kept_after : (ax : ℕ) (w : World) → Kept w (vector_function ax w).after
+unfolding disable_interrupts enable_interrupts get_exception_vector get_protected_vector get_real_vector interrupt_state
+    set_exception_vector set_protected_vector set_real_vector dpmi_version unsupported
+kept_after ax w = of_each_service (λ (a : Service). Kept w a.after) w (record {
+  f200 = refl;
+  f201 = refl;
+  f202 = refl;
+  f203 = refl;
+  f204 = refl;
+  f205 = refl;
+  f400 = refl;
+  f900 = refl;
+  f901 = refl;
+  f902 = refl;
+  other = refl;
+}) ax
+
+pub kept_service : (ax : ℕ) (w : World) → Kept w (vector_service ax w).world
+unfolding vector_service
+kept_service ax w =
+    of_answer (Kept w) (first_reason (vector_function ax w).reasons) w (vector_function ax w).after refl (λ n. refl) (λ e. kept_after ax w)
 
 sound_word : (dos : List ℕ) (at v : ℕ) → SoundMegabyte dos → at + 1 < ROM_START → v < 0x10000 → SoundMegabyte (with_word dos at v)
 sound_word dos at v s below fits =
