@@ -20,8 +20,7 @@ use Rattle.block_memory.proofs.SizedSound.{length-bytes, moved_sound, moved_fits
 
 -- a block that is held has a page
 some_pages : (blocks : List (Option MemoryBlock)) (budget place : ℕ) → SoundBlocks blocks budget → (o : Option MemoryBlock) →
-    slice_index_or blocks place None ≡ o →
-    o ≢ None → (n : ℕ) → pages_of_block o ≡ n → n ≢ 0
+    slice_index_or blocks place None ≡ o → o ≢ None → (n : ℕ) → pages_of_block o ≡ n → n ≢ 0
 some_pages blocks budget place sound None e there n count = absurd (there refl)
 some_pages blocks budget place sound (Some block) e there n count =
     let is = sound.each (suc place) block e in let long = is.pages in let some = is.some in omega arith
@@ -59,8 +58,7 @@ dropped b c place replaces budget holds = grind (arith, becomes, shorter_none)
 -- ---- another linear address
 
 -- the three writes
-moved_is : (b b1 b2 b3 : List ℕ) (place old base n : ℕ) →
-    b1 ≡ after_slide b (PAGE_SIZE * BLOCK_TABLES + PAGE_ENTRY_SIZE * first_page old)
+moved_is : (b b1 b2 b3 : List ℕ) (place old base n : ℕ) → b1 ≡ after_slide b (PAGE_SIZE * BLOCK_TABLES + PAGE_ENTRY_SIZE * first_page old)
     (PAGE_SIZE * BLOCK_TABLES + PAGE_ENTRY_SIZE * first_page base) (PAGE_ENTRY_SIZE * n) →
     b2 ≡ after_slide b1 (PAGE_SIZE * LOCK_COUNTS + LOCK_COUNT_SIZE * first_page old)
     (PAGE_SIZE * LOCK_COUNTS + LOCK_COUNT_SIZE * first_page base) (LOCK_COUNT_SIZE * n) →
@@ -105,8 +103,7 @@ sizing b place from old base pages kept g has few = record {
 -- after the cut the block may move
 pub moves_after : (b c : List ℕ) (place from old base pages kept : ℕ) (g : CanSizeIn b place base pages) →
     Sizing (blocks_held b g.budget) g.budget place from old base pages kept → ReplacesBlock b c place (λ o. shorter o kept) →
-    HasPagesIn c place from kept →
-    CanMoveIn c place from base kept
+    HasPagesIn c place from kept → CanMoveIn c place from base kept
 moves_after b c place from old base pages kept g s cut has =
     let blocks = blocks_held b g.budget in
     let one = cut g.budget g.holds.holds in
@@ -125,8 +122,7 @@ moves_after b c place from old base pages kept g s cut has =
 -- after the move it may grow
 pub grows_after : (b c d : List ℕ) (place from old base pages kept : ℕ) (g : CanSizeIn b place base pages) →
     Sizing (blocks_held b g.budget) g.budget place from old base pages kept → ReplacesBlock b c place (λ o. shorter o kept) →
-    HasPagesIn c place from kept →
-    ReplacesBlock c d place (λ o. at_base base o) → CanHoldIn d place base kept pages
+    HasPagesIn c place from kept → ReplacesBlock c d place (λ o. at_base base o) → CanHoldIn d place base kept pages
 grows_after b c d place from old base pages kept g s cut has move =
     let blocks = blocks_held b g.budget in
     let one = cut g.budget g.holds.holds in

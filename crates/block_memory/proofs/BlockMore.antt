@@ -22,8 +22,7 @@ abbrev pub blocks_of : BlockParts → List (Option MemoryBlock)
 blocks_of s = blocks_in s.handles s.tables s.locks s.frames
 
 -- the bytes and the lock counts of a block, whether or not there is one
-pub bytes_are : (s : BlockParts) (place : ℕ) →
-    bytes_of_block (block_of s place)
+pub bytes_are : (s : BlockParts) (place : ℕ) → bytes_of_block (block_of s place)
     ≡ listed (PAGE_SIZE * pages_of s.handles place) (page_byte s.tables s.frames (first_page_of s.handles place))
 unfolding held_block
 bytes_are s place = elim (cases_eq (pages_of s.handles place) 0) [
@@ -61,8 +60,7 @@ block_is s place some block base bytes locks = grind (arith, bytes_are, locks_ar
 kept_byte : (old new : BlockParts) (budget place base n frame : ℕ) → HasPageMore old new budget place base n frame →
     AgreesBeside old new budget (region_page base n) frame → HasBlockEntries old.handles old.tables old.taken budget →
     (page x : ℕ) → page < BLOCK_REGION_PAGES → page ≢ region_page base n → NamesBudgetFrame budget (entry_of old.tables page) →
-    x < PAGE_SIZE →
-    slice_index new.frames (PAGE_SIZE * (entry_of new.tables page / PAGE_SIZE - BUDGET_FRAMES) + x)
+    x < PAGE_SIZE → slice_index new.frames (PAGE_SIZE * (entry_of new.tables page / PAGE_SIZE - BUDGET_FRAMES) + x)
     ≡ slice_index old.frames (PAGE_SIZE * (entry_of old.tables page / PAGE_SIZE - BUDGET_FRAMES) + x)
 kept_byte old new budget place base n frame m beside h page x small ne names less = grind arith
 

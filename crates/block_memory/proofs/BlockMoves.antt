@@ -93,16 +93,14 @@ record ComesFrom (old : BlockParts) (place base n page entry : ℕ) : Type 0 whe
       ⊎ ((source ≡ page) × (IsOff (first_page_of old.handles place) n page × IsOff (first_page base) n page))
 
 comes_from : (old new : BlockParts) (place base n : ℕ) → HasMoved old new place base n → (page : ℕ) → page < BLOCK_REGION_PAGES →
-    entry_of new.tables page ≢ 0 →
-    ComesFrom old place base n page (entry_of new.tables page)
+    entry_of new.tables page ≢ 0 → ComesFrom old place base n page (entry_of new.tables page)
 comes_from old new place base n m page small some = elim (in_or_off (first_page base) n page) [
   | inl here ↦ (grind (arith, pages_small))
   | inr off ↦ grind (arith, in_or_off)
 ]
 
 apart_sources : (old : BlockParts) (place base n page other x y : ℕ) → page ≢ other →
-    (p : ComesFrom old place base n page x) (q : ComesFrom old place base n other y) →
-    p.source ≢ q.source
+    (p : ComesFrom old place base n page x) (q : ComesFrom old place base n other y) → p.source ≢ q.source
 apart_sources old place base n page other x y ne p q same = grind arith
 
 -- a page that no block has after
@@ -201,8 +199,7 @@ other_stays : (old new : BlockParts) (place base n : ℕ) → HasMoved old new p
 unfolding held_block
 other_stays old new place base n m other within ne = grind (arith, is_clear, row_free, row_there, same_listed)
 
-block_moves : (old new : BlockParts) (place base n : ℕ) → HasMoved old new place base n →
-    block_of new place
+block_moves : (old new : BlockParts) (place base n : ℕ) → HasMoved old new place base n → block_of new place
     ≡ Some (record { base = base; bytes = bytes_of_block (block_of old place); locks = locks_of_block (block_of old place) })
 block_moves old new place base n m =
     block_is new place (λ none. m.may.some (sym m.new_pages ∙ none))

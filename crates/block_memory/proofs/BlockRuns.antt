@@ -68,8 +68,7 @@ shorter_whole blocks budget place base n sound (Some block) e count =
     rw (ne_eqb n 0 some, take_all (PAGE_SIZE * n) block.bytes (omega arith), take_all n block.locks (omega arith)) refl
 
 pub shorter_all : (blocks : List (Option MemoryBlock)) (budget place base n : ℕ) → SoundBlocks blocks budget →
-    HasPages blocks place base n →
-    shorter (slice_index_or blocks place None) n ≡ slice_index_or blocks place None
+    HasPages blocks place base n → shorter (slice_index_or blocks place None) n ≡ slice_index_or blocks place None
 shorter_all blocks budget place base n sound has =
     shorter_whole blocks budget place base n sound (slice_index_or blocks place None) refl has.count
 
@@ -86,21 +85,18 @@ start_longer blocks place base n none = grind (arith, extended_none, set-get_or)
 
 pub step_longer : (blocks : List (Option MemoryBlock)) (place base k : ℕ) (o : Option MemoryBlock) → place < length blocks →
     (λ (bs : List (Option MemoryBlock)). slice_set bs place (Some (longer base (slice_index_or bs place None) 1)))
-    (slice_set blocks place (block_with_zero_pages base o k))
-    ≡ slice_set blocks place (block_with_zero_pages base o (k + 1))
+    (slice_set blocks place (block_with_zero_pages base o k)) ≡ slice_set blocks place (block_with_zero_pages base o (k + 1))
 step_longer blocks place base k o within = grind (arith, extended_next, get_or-set_same, set-set)
 
 pub start_shorter : (blocks : List (Option MemoryBlock)) (budget place base n : ℕ) → SoundBlocks blocks budget →
-    HasPages blocks place base n →
-    slice_set blocks place (shorter (slice_index_or blocks place None) n) ≡ blocks
+    HasPages blocks place base n → slice_set blocks place (shorter (slice_index_or blocks place None) n) ≡ blocks
 start_shorter blocks budget place base n sound has =
     ap (λ (o : Option MemoryBlock). slice_set blocks place o) (shorter_all blocks budget place base n sound has)
     ∙ set-get_or blocks place None
 
 pub step_shorter : (blocks : List (Option MemoryBlock)) (place n : ℕ) (o : Option MemoryBlock) → place < length blocks →
     (λ (bs : List (Option MemoryBlock)). slice_set bs place (shorter (slice_index_or bs place None) n))
-    (slice_set blocks place (shorter o (n + 1)))
-    ≡ slice_set blocks place (shorter o n)
+    (slice_set blocks place (shorter o (n + 1))) ≡ slice_set blocks place (shorter o n)
 step_shorter blocks place n o within = grind (arith, get_or-set_same, set-set, shorter_next)
 
 -- cut, moved and extended a block is resized
@@ -195,8 +191,7 @@ pub cutting_in : (old now : List ℕ) (place base n : ℕ) → Cutting old now p
 cutting_in old now place base n s = record { budget = s.budget; holds = s.steps.after; has = s.has }
 
 pub cut_more : (old now next : List ℕ) (place base n : ℕ) → Cutting old now place base (n + 1) →
-    ReplacesBlock now next place (λ o. shorter o n) →
-    Cutting old next place base n
+    ReplacesBlock now next place (λ o. shorter o n) → Cutting old next place base n
 cut_more old now next place base n s step =
     let budget = s.budget in
     let blocks = blocks_held old budget in

@@ -40,8 +40,7 @@ ranges_held b budget h = ranges (handles_part b) (tables_part b) (locks_part b) 
 -- no change, and one change after another
 
 pub same_blocks : (b : List ℕ) (budget : ℕ) (blocks : List (Option MemoryBlock)) → HoldsSoundBlocks b budget →
-    blocks_held b budget ≡ blocks →
-    ReplacesBlocks b b budget blocks
+    blocks_held b budget ≡ blocks → ReplacesBlocks b b budget blocks
 unfolding world_of
 same_blocks b budget blocks holds e = grind arith
 
@@ -73,16 +72,14 @@ held_still blocks place y within keeps p held =
     (subst (λ (bs : List (Option MemoryBlock)). IsHeldIn bs p) (sym (set-get_or blocks place None)) held)
 
 replaced : (b c : List ℕ) (budget : ℕ) (blocks : List (Option MemoryBlock)) → ChangesBlocks b c budget blocks → SoundBlocks blocks budget →
-    HoldBytes blocks →
-    ReplacesBlocks b c budget blocks
+    HoldBytes blocks → ReplacesBlocks b c budget blocks
 replaced b c budget blocks changes sound fits = grind arith
 
 -- so the block at an index changes
-pub replaced_at : (b c d : List ℕ) (budget place : ℕ) (change : Option MemoryBlock → Option MemoryBlock) →
-    HoldsSoundBlocks b budget → d ≡ c →
-    ChangesBlocks b c budget (with_at (blocks_held b budget) place change) →
-    SoundBlocks (with_at (blocks_held b budget) place change) budget →
-    HoldBytes (with_at (blocks_held b budget) place change) → ReplacesBlock b d place change
+pub replaced_at : (b c d : List ℕ) (budget place : ℕ) (change : Option MemoryBlock → Option MemoryBlock) → HoldsSoundBlocks b budget →
+    d ≡ c → ChangesBlocks b c budget (with_at (blocks_held b budget) place change) →
+    SoundBlocks (with_at (blocks_held b budget) place change) budget → HoldBytes (with_at (blocks_held b budget) place change) →
+    ReplacesBlock b d place change
 replaced_at b c d budget place change holds e changes sound fits = grind (arith, for_budget, replaced)
 
 -- the memory lists its free frames
@@ -129,14 +126,12 @@ can_map b place base n frame g is b1 c e1 e2 =
 
 -- the four writes
 grown_is : (b b1 b2 b3 b4 : List ℕ) (place base n frame : ℕ) → b1 ≡ without_head b frame →
-    b2 ≡ put b1 (PAGE_SIZE * frame) (copies PAGE_SIZE 0) →
-    b3 ≡ with_entry b2 (base + PAGE_SIZE * n) (page_entry frame true) → b4 ≡ with_block_row b3 place base (n + 1) →
-    b4 ≡ grown b place base n frame
+    b2 ≡ put b1 (PAGE_SIZE * frame) (copies PAGE_SIZE 0) → b3 ≡ with_entry b2 (base + PAGE_SIZE * n) (page_entry frame true) →
+    b4 ≡ with_block_row b3 place base (n + 1) → b4 ≡ grown b place base n frame
 grown_is b b1 b2 b3 b4 place base n frame e1 e2 e3 e4 = grind arith
 
 pub page_added : (b b1 b2 b3 b4 : List ℕ) (place base n frame : ℕ) → CanHoldIn b place base n (n + 1) → IsBudgetFrame b frame →
-    IsFree b frame → first_free b ≡ frame →
-    b1 ≡ without_head b frame → b2 ≡ put b1 (PAGE_SIZE * frame) (copies PAGE_SIZE 0) →
+    IsFree b frame → first_free b ≡ frame → b1 ≡ without_head b frame → b2 ≡ put b1 (PAGE_SIZE * frame) (copies PAGE_SIZE 0) →
     b3 ≡ with_entry b2 (base + PAGE_SIZE * n) (page_entry frame true) → b4 ≡ with_block_row b3 place base (n + 1) →
     ReplacesBlock b b4 place (λ o. Some (longer base o 1))
 page_added b b1 b2 b3 b4 place base n frame g is free head e1 e2 e3 e4 =
@@ -186,16 +181,14 @@ pub record CanGive (b : List ℕ) (frame : ℕ) : Type 0 where
 
 -- no other page names the frame
 no_other : (b : List ℕ) (place base n : ℕ) → HasPagesIn b place base (n + 1) → (page : ℕ) → page < BLOCK_REGION_PAGES →
-    page ≢ region_page base n →
-    frame_of (entry_of (tables_part b) page) ≢ last_frame b base n
+    page ≢ region_page base n → frame_of (entry_of (tables_part b) page) ≢ last_frame b base n
 no_other b place base n d page small ne same =
     let s = dropping b place base n d in
     let from = s.last.inside.from in
     grind (arith, entry_kinds, page_inside, ranges_held)
 
 pub can_give : (b : List ℕ) (place base n : ℕ) → HasPagesIn b place base (n + 1) → (c : List ℕ) →
-    c ≡ with_entry b (base + PAGE_SIZE * n) 0 →
-    (frame : ℕ) → frame ≡ last_frame b base n → CanGive c frame
+    c ≡ with_entry b (base + PAGE_SIZE * n) 0 → (frame : ℕ) → frame ≡ last_frame b base n → CanGive c frame
 can_give b place base n d c e frame f =
     let budget = d.budget in
     let holds = d.holds.holds in
@@ -231,8 +224,7 @@ can_give b place base n d c e frame f =
 -- the five writes
 shrunk_is : (b b1 b2 b3 b4 : List ℕ) (place base n frame other kept : ℕ) → b1 ≡ with_entry b (base + PAGE_SIZE * n) 0 →
     b2 ≡ with_head b1 other → other ≡ frame → b3 ≡ unlocked b2 (region_page base n) → b4 ≡ with_block_row b3 place kept n →
-    kept ≡ base_in_row base n →
-    b4 ≡ shrunk b place base n frame
+    kept ≡ base_in_row base n → b4 ≡ shrunk b place base n frame
 shrunk_is b b1 b2 b3 b4 place base n frame other kept e f same g h row = grind (arith, base_in_row)
 
 pub page_removed : (b b1 b2 b3 b4 : List ℕ) (place base n frame kept : ℕ) → HasPagesIn b place base (n + 1) →

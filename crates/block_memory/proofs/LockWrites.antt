@@ -20,8 +20,7 @@ use Rattle.block_memory.proofs.{PageChanges.{world_after}, PageWrites.{host_of, 
 
 -- the page of a byte of a block
 page_of_byte : (handles : List ℕ) (place at lin : ℕ) → HasRanges handles → place < MAX_BLOCKS → pages_of handles place ≢ 0 →
-    lin ≡ base_of handles place + at →
-    page_at lin ≡ first_page_of handles place + at / PAGE_SIZE
+    lin ≡ base_of handles place + at → page_at lin ≡ first_page_of handles place + at / PAGE_SIZE
 page_of_byte handles place at lin ranges within some e = grind arith
 
 pub lock_reads : (handles tables locks frames : List ℕ) (lin : ℕ) → HasRanges handles → KeepsLocks handles locks → InRegion lin →
@@ -59,8 +58,7 @@ pub in_region_of : (blocks : List (Option MemoryBlock)) (lin : ℕ) → IsBlocks
 in_region_of blocks lin is = grind (arith, no_blocks)
 
 pub block_byte : (handles tables locks frames : List ℕ) (lin : ℕ) → HasRanges handles →
-    IsBlocks (place_in (blocks_in handles tables locks frames) lin) →
-    BlockByte handles (blocks_in handles tables locks frames) lin
+    IsBlocks (place_in (blocks_in handles tables locks frames) lin) → BlockByte handles (blocks_in handles tables locks frames) lin
 block_byte handles tables locks frames lin ranges is =
     let r = in_region_of (blocks_in handles tables locks frames) lin is in
     elim (over_tells handles tables locks frames lin r.from r.to) [
@@ -108,24 +106,21 @@ locked_keeps handles locks place at page n within inside e h = record {
 lock_block : (handles tables locks frames : List ℕ) (place at page n : ℕ) → length locks ≡ LOCK_COUNT_SIZE * BLOCK_REGION_PAGES →
     place < MAX_BLOCKS → at < PAGE_SIZE * pages_of handles place →
     page ≡ first_page_of handles place + at / PAGE_SIZE → page < BLOCK_REGION_PAGES →
-    held_block handles tables (put_lock locks page n) frames place
-    ≡ record (held_block handles tables locks frames
+    held_block handles tables (put_lock locks page n) frames place ≡ record (held_block handles tables locks frames
     place) { locks = slice_set (held_block handles tables locks frames place).locks (at / PAGE_SIZE) n }
 unfolding held_block
 lock_block handles tables locks frames place at page n long within inside e small = grind (arith, listed-set, lock_beside, lock_there)
 
 lock_other : (handles tables locks frames : List ℕ) (place at page n other : ℕ) → HasRanges handles → place < MAX_BLOCKS →
-    at < PAGE_SIZE * pages_of handles place →
-    page ≡ first_page_of handles place + at / PAGE_SIZE → other < MAX_BLOCKS → other ≢ place →
+    at < PAGE_SIZE * pages_of handles place → page ≡ first_page_of handles place + at / PAGE_SIZE → other < MAX_BLOCKS → other ≢ place →
     block_in handles tables (put_lock locks page n) frames other ≡ block_in handles tables locks frames other
 unfolding held_block
 lock_other handles tables locks frames place at page n other ranges within inside e small ne =
     grind (arith, apart_pages, lock_beside, row_free, row_there, same_listed)
 
 lock_blocks : (handles tables locks frames : List ℕ) (place at page n : ℕ) → HasRanges handles →
-    length locks ≡ LOCK_COUNT_SIZE * BLOCK_REGION_PAGES → place < MAX_BLOCKS →
-    pages_of handles place ≢ 0 → at < PAGE_SIZE * pages_of handles place → page ≡ first_page_of handles place + at / PAGE_SIZE →
-    page < BLOCK_REGION_PAGES →
+    length locks ≡ LOCK_COUNT_SIZE * BLOCK_REGION_PAGES → place < MAX_BLOCKS → pages_of handles place ≢ 0 →
+    at < PAGE_SIZE * pages_of handles place → page ≡ first_page_of handles place + at / PAGE_SIZE → page < BLOCK_REGION_PAGES →
     blocks_in handles tables (put_lock locks page n) frames ≡ with_lock (blocks_in handles tables locks frames) (Block (suc place) at) n
 lock_blocks handles tables locks frames place at page n ranges long within some inside e small =
     grind (arith, block_at_row, listed-set, lock_block, lock_other, row_there)
@@ -143,8 +138,7 @@ pub record LocksPage (b : List ℕ) (budget lin n : ℕ) : Type 0 where
   pub addresses : (p : Place) → address_of (locked b lin n) p ≡ address_of b p
 
 pub locks_page : (b : List ℕ) (budget lin n : ℕ) → Holds b budget → HasRanges (handles_part b) →
-    IsBlocks (place_in (blocks_held b budget) lin) →
-    LocksPage b budget lin n
+    IsBlocks (place_in (blocks_held b budget) lin) → LocksPage b budget lin n
 locks_page b budget lin n holds ranges is =
     let p = parts_of b budget in
     let sizes = sizes_of b budget (host_of b budget holds) in

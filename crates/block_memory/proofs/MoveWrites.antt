@@ -171,14 +171,11 @@ moved_parts p place old base n = record p {
 }
 
 pub moved_more : (p : MemoryParts) (budget place old base n : ℕ) → HasSizes p budget → MayMove (block_parts p) place base n →
-    base_of p.handles place ≡ old →
-    HasMoved (block_parts p) (block_parts (moved_parts p place old base n)) place base n
-moved_more p budget place old base n sizes may based =
-    grind (arith, entries_go, locks_go, other_base, other_pages, row_base, row_pages)
+    base_of p.handles place ≡ old → HasMoved (block_parts p) (block_parts (moved_parts p place old base n)) place base n
+moved_more p budget place old base n sizes may based = grind (arith, entries_go, locks_go, other_base, other_pages, row_base, row_pages)
 
 pub moved_holds : (p : MemoryParts) (budget place old base n : ℕ) → HasSizes p budget → HoldsParts p budget →
-    MayMove (block_parts p) place base n → base_of p.handles place ≡ old →
-    HoldsParts (moved_parts p place old base n) budget
+    MayMove (block_parts p) place base n → base_of p.handles place ≡ old → HoldsParts (moved_parts p place old base n) budget
 moved_holds p budget place old base n sizes h may based =
     let m = moved_more p budget place old base n sizes may based in
     let handles = keeps_handles p.handles place base n sizes.handles may.within (λ none. absurd (may.some none)) h.handles in

@@ -63,8 +63,7 @@ held_byte s place at held = by_block (block_at (blocks_of s) (suc place)) refl h
 
 -- so places that are held in the state of fewer pages have one address in both
 kept_addresses : (few many : List ℕ) (old new : BlockParts) (budget place base n frame : ℕ) →
-    HasPageMore old new budget place base n frame →
-    block_parts (parts_of few budget) ≡ old → block_parts (parts_of many budget) ≡ new →
+    HasPageMore old new budget place base n frame → block_parts (parts_of few budget) ≡ old → block_parts (parts_of many budget) ≡ new →
     (p : Place) → IsHeldIn (blocks_of old) p → address_of many p ≡ address_of few p
 unfolding address_of
 kept_addresses few many old new budget place base n frame m e f (Dos at) held = refl
@@ -94,8 +93,7 @@ pub world_after_head : (b c : List ℕ) (budget head : ℕ) (q : MemoryParts) �
     (mode : Mode) (regs : Regs) (vif : Bool) (width : Option Width) →
     world_of c budget mode regs vif width ≡ record (world_of b budget mode regs vif width) { blocks = blocks_of (block_parts q) }
 unfolding world_of
-world_after_head b c budget head q e same mode regs vif width =
-    grind (arith, head_lists, same_lists, world_by)
+world_after_head b c budget head q e same mode regs vif width = grind (arith, head_lists, same_lists, world_by)
 
 -- what the world says of the blocks, the rows say
 
@@ -219,8 +217,7 @@ pub record HasLastFrame (b : List ℕ) (budget base n : ℕ) : Type 0 where
   pub entry : entry_of (tables_part b) (region_page base n) ≡ page_entry (last_frame b base n) true
 
 pub has_last_frame : (b : List ℕ) (budget place base n : ℕ) → Holds b budget → HasRanges (handles_part b) →
-    HasLast (blocks_held b budget) place base n →
-    HasLastFrame b budget base n
+    HasLast (blocks_held b budget) place base n → HasLastFrame b budget base n
 has_last_frame b budget place base n holds ranges has =
     let s = block_parts (parts_of b budget) in
     let pages = pages_read s place (n + 1) has.within has.pages in
@@ -236,8 +233,7 @@ has_last_frame b budget place base n holds ranges has =
     grind arith
 
 pub may_shrink : (b : List ℕ) (budget place base n : ℕ) → Holds b budget → HasRanges (handles_part b) →
-    HasLast (blocks_held b budget) place base n →
-    MayShrink (parts_of b budget) budget place base n (last_frame b base n - BUDGET_FRAMES)
+    HasLast (blocks_held b budget) place base n → MayShrink (parts_of b budget) budget place base n (last_frame b base n - BUDGET_FRAMES)
 may_shrink b budget place base n holds ranges has =
     let s = block_parts (parts_of b budget) in
     let pages = pages_read s place (n + 1) has.within has.pages in
@@ -256,8 +252,7 @@ may_shrink b budget place base n holds ranges has =
 
 -- a page less
 pub shrunk_changes : (b : List ℕ) (budget place base n : ℕ) → Holds b budget → HasRanges (handles_part b) →
-    HasLast (blocks_held b budget) place base n →
-    ChangesBlocks b (shrunk b place base n (last_frame b base n)) budget
+    HasLast (blocks_held b budget) place base n → ChangesBlocks b (shrunk b place base n (last_frame b base n)) budget
     (slice_set (blocks_held b budget) place (shorter (slice_index_or (blocks_held b budget) place None) n))
 shrunk_changes b budget place base n holds ranges has =
     let frame = last_frame b base n in

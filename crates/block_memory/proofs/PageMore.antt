@@ -137,9 +137,7 @@ grows old new budget place base n frame m =
 -- the block shrinks
 pub shrinks : (old new : BlockParts) (budget place base n frame : ℕ) → HasPageMore old new budget place base n frame →
     AgreesButFor new old budget (region_page base n) frame
-shrinks old new budget place base n frame m =
-    let g = grows old new budget place base n frame m in
-    grind arith
+shrinks old new budget place base n frame m = let g = grows old new budget place base n frame m in grind arith
 
 module _ (was is : BlockParts) (budget page frame : ℕ) (m : AgreesButFor was is budget page frame) where
   still_outside : (other : ℕ) → other ≢ page → IsOutside is.handles other → IsOutside was.handles other

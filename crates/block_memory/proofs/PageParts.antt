@@ -79,8 +79,7 @@ zero_dword (suc (suc (suc (suc at)))) l = absurd (omega arith)
 
 -- the rows are exactly those of blocks; a row of no pages is 0
 pub keeps_handles : (handles : List ℕ) (place base pages : ℕ) → length handles ≡ PAGE_SIZE * BLOCK_ROW_FRAMES → place < MAX_BLOCKS →
-    (pages ≡ 0 → base ≡ 0) →
-    KeepsHandles handles → KeepsHandles (with_row handles place base pages)
+    (pages ≡ 0 → base ≡ 0) → KeepsHandles handles → KeepsHandles (with_row handles place base pages)
 keeps_handles handles place base pages long within none keeps = record { rest = rest; free = free }
   where
     rest : (other at : ℕ) → other < MAX_BLOCKS → 8 ≤ at → at < BLOCK_ROW_SIZE →

@@ -24,9 +24,7 @@ pub record HasHost (b : List ℕ) (budget : ℕ) : Type 0 where
   pub fixed : HasFixedEntries (fixed_part b)
 
 pub tables_of : (b : List ℕ) (budget : ℕ) → HasHost b budget → HasTables b
-tables_of b budget host =
-    let size = host.size in
-    HasTables-host_directory b (host_directory b host.fixed) (omega arith)
+tables_of b budget host = let size = host.size in HasTables-host_directory b (host_directory b host.fixed) (omega arith)
 
 pub budget_of : (b : List ℕ) (budget : ℕ) → HasHost b budget → HasBudget b
 budget_of b budget host = grind arith
@@ -65,8 +63,7 @@ region_covered b budget lin host in_region =
 
 pub region_unmapped : (b : List ℕ) (budget lin : ℕ) → HasHost b budget → InRegion lin → entry_of (tables_part b) (page_at lin) ≡ 0 →
     IsUnmapped b lin
-region_unmapped b budget lin host in_region none =
-    ap (λ (e : ℕ). has_bit e PRESENT) (region_entry b budget lin host in_region ∙ none)
+region_unmapped b budget lin host in_region none = ap (λ (e : ℕ). has_bit e PRESENT) (region_entry b budget lin host in_region ∙ none)
 
 pub region_mapped : (b : List ℕ) (budget lin frame : ℕ) → HasHost b budget → InRegion lin →
     entry_of (tables_part b) (page_at lin) ≡ page_entry frame true → IsMapped b lin

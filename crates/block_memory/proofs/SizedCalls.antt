@@ -51,8 +51,7 @@ pages_at base None = refl
 pages_at base (Some block) = refl
 
 pub can_extend : (blocks : List (Option MemoryBlock)) (budget place from old base pages kept : ℕ) →
-    Sizing blocks budget place from old base pages kept →
-    HasPages (cut_blocks blocks place kept) place from kept →
+    Sizing blocks budget place from old base pages kept → HasPages (cut_blocks blocks place kept) place from kept →
     CanHold (moved_blocks (cut_blocks blocks place kept) place base) budget place base kept pages
 can_extend blocks budget place from old base pages kept s has =
     let cut = cut_blocks blocks place kept in
@@ -85,9 +84,8 @@ can_extend blocks budget place from old base pages kept s has =
 
 -- the block in the end
 resized_block : (blocks : List (Option MemoryBlock)) (budget place from old base pages kept : ℕ) → SoundBlocks blocks budget →
-    Sizing blocks budget place from old base pages kept →
-    (o : Option MemoryBlock) → held blocks place ≡ o → block_with_zero_pages base (at_base base (shorter o kept)) (pages - kept)
-    ≡ sized_block base pages o
+    Sizing blocks budget place from old base pages kept → (o : Option MemoryBlock) → held blocks place ≡ o →
+    block_with_zero_pages base (at_base base (shorter o kept)) (pages - kept) ≡ sized_block base pages o
 resized_block blocks budget place from old base pages kept sound s None e = absurd (s.can.held e)
 resized_block blocks budget place from old base pages kept sound s (Some block) e =
     let is = s.few in let some = s.some in let more = s.can.some in

@@ -29,8 +29,7 @@ record IsThere (blocks : List (Option MemoryBlock)) (place : ℕ) (x : Option Me
   found : ((at ≡ place) × (x ≡ Some block)) ⊎ ((at ≢ place) × (slice_index_or blocks at None ≡ Some block))
 
 is_there : (blocks : List (Option MemoryBlock)) (place : ℕ) (x : Option MemoryBlock) → place < length blocks →
-    (handle : ℕ) (block : MemoryBlock) →
-    block_at (slice_set blocks place x) handle ≡ Some block → IsThere blocks place x handle block
+    (handle : ℕ) (block : MemoryBlock) → block_at (slice_set blocks place x) handle ≡ Some block → IsThere blocks place x handle block
 is_there blocks place x within zero block e = absurd cc
 is_there blocks place x within (suc at) block e = grind (arith, get_or-set_other, get_or-set_same)
 
@@ -41,8 +40,7 @@ same_some : (x : Option MemoryBlock) (one other : MemoryBlock) → x ≡ Some on
 same_some x one other e f = cc
 
 pub sound_put : (blocks : List (Option MemoryBlock)) (budget place : ℕ) (x : Option MemoryBlock) → SoundBlocks blocks budget →
-    place < MAX_BLOCKS →
-    ((block : MemoryBlock) → x ≡ Some block → IsBlock block) →
+    place < MAX_BLOCKS → ((block : MemoryBlock) → x ≡ Some block → IsBlock block) →
     ((block : MemoryBlock) → x ≡ Some block → (other : ℕ) (held : MemoryBlock) → other ≢ place →
     slice_index_or blocks other None ≡ Some held → AreApart block held) →
     pages_of_blocks blocks + pages_of_block x ≤ budget + pages_of_block (slice_index_or blocks place None) →
@@ -85,8 +83,7 @@ sound_width None w blocks some s = absurd (some refl)
 sound_width (Some width) w blocks some s = s
 
 pub sound_blocks : (w : World) (blocks : List (Option MemoryBlock)) → IsSound w → w.width ≢ None → SoundBlocks blocks w.budget →
-    HoldBytes blocks →
-    IsSound (record w { blocks = blocks })
+    HoldBytes blocks → IsSound (record w { blocks = blocks })
 sound_blocks w blocks s some sound fits = grind (arith, sound_width)
 
 -- a list of numbers with zeros after it
@@ -95,8 +92,7 @@ zeros_behind xs n at most few = grind (arith, at_zeros, get_or-append_right, get
 
 -- a block, or none, is as long as its pages
 pub length-bytes : (blocks : List (Option MemoryBlock)) (budget place : ℕ) → SoundBlocks blocks budget → (o : Option MemoryBlock) →
-    slice_index_or blocks place None ≡ o →
-    length (bytes_of_block o) ≡ PAGE_SIZE * pages_of_block o
+    slice_index_or blocks place None ≡ o → length (bytes_of_block o) ≡ PAGE_SIZE * pages_of_block o
 length-bytes blocks budget place sound None e = refl
 length-bytes blocks budget place sound (Some block) e = (sound.each (suc place) block e).pages
 
@@ -105,14 +101,12 @@ length-locks None = refl
 length-locks (Some block) = refl
 
 old_locks : (blocks : List (Option MemoryBlock)) (budget place : ℕ) → SoundBlocks blocks budget → (o : Option MemoryBlock) →
-    slice_index_or blocks place None ≡ o →
-    (page : ℕ) → slice_index (locks_of_block o) page ≤ GREATEST_LOCK_COUNT
+    slice_index_or blocks place None ≡ o → (page : ℕ) → slice_index (locks_of_block o) page ≤ GREATEST_LOCK_COUNT
 old_locks blocks budget place sound None e page = omega arith
 old_locks blocks budget place sound (Some block) e page = (sound.each (suc place) block e).locks page
 
 old_fits : (blocks : List (Option MemoryBlock)) (place : ℕ) → HoldBytes blocks → (o : Option MemoryBlock) →
-    slice_index_or blocks place None ≡ o →
-    (at : ℕ) → slice_index (bytes_of_block o) at ≤ 0xFF
+    slice_index_or blocks place None ≡ o → (at : ℕ) → slice_index (bytes_of_block o) at ≤ 0xFF
 old_fits blocks place fits None e at = omega arith
 old_fits blocks place fits (Some block) e at = let fit = fits (suc place) block e at in omega arith
 
@@ -165,8 +159,7 @@ longer_sound blocks budget place base n to sound can more =
     ]
 
 pub longer_fits : (blocks : List (Option MemoryBlock)) (budget place base n to : ℕ) → SoundBlocks blocks budget → HoldBytes blocks →
-    CanHold blocks budget place base n to →
-    HoldBytes (slice_set blocks place (Some (longer base (slice_index_or blocks place None) 1)))
+    CanHold blocks budget place base n to → HoldBytes (slice_set blocks place (Some (longer base (slice_index_or blocks place None) 1)))
 longer_fits blocks budget place base n to sound fits can = grind (arith, bytes_put, old_fits, same_some, zeros_behind)
 
 -- it may grow further
@@ -217,8 +210,7 @@ shorter_base None n some = refl
 shorter_base (Some block) n some = rw (ne_eqb n 0 some) refl
 
 pub shorter_sound : (blocks : List (Option MemoryBlock)) (budget place base n : ℕ) → SoundBlocks blocks budget →
-    HasLast blocks place base n →
-    SoundBlocks (slice_set blocks place (shorter (slice_index_or blocks place None) n)) budget
+    HasLast blocks place base n → SoundBlocks (slice_set blocks place (shorter (slice_index_or blocks place None) n)) budget
 shorter_sound blocks budget place base n sound has =
     sound_put blocks budget place (shorter (held blocks place) n) sound has.within is apart
     (let pages = has.pages in let within = sound.within in omega (arith, shorter_pages (held blocks place) n (omega arith)))
@@ -245,8 +237,7 @@ shorter_sound blocks budget place base n sound has =
         ]
 
 pub shorter_fits : (blocks : List (Option MemoryBlock)) (budget place base n : ℕ) → SoundBlocks blocks budget → HoldBytes blocks →
-    HasLast blocks place base n →
-    HoldBytes (slice_set blocks place (shorter (slice_index_or blocks place None) n))
+    HasLast blocks place base n → HoldBytes (slice_set blocks place (shorter (slice_index_or blocks place None) n))
 shorter_fits blocks budget place base n sound fits has =
     bytes_put blocks place (shorter (held blocks place) n) (let long = sound.handles in let within = has.within in omega arith) fits
     (λ block e at.
@@ -266,8 +257,7 @@ has_pages_next blocks place base n has = grind (arith, get_or-set_same, length-s
 -- a block that has moved
 
 moved_sound_at : (blocks : List (Option MemoryBlock)) (budget place base n : ℕ) → SoundBlocks blocks budget → CanMove blocks place base n →
-    (o : Option MemoryBlock) →
-    held blocks place ≡ o → SoundBlocks (slice_set blocks place (at_base base o)) budget
+    (o : Option MemoryBlock) → held blocks place ≡ o → SoundBlocks (slice_set blocks place (at_base base o)) budget
 moved_sound_at blocks budget place base n sound can None e = absurd (can.some (sym can.count ∙ ap pages_of_block e))
 moved_sound_at blocks budget place base n sound can (Some block) e =
     let was = sound.each (suc place) block e in
@@ -287,8 +277,7 @@ pub moved_sound : (blocks : List (Option MemoryBlock)) (budget place base n : �
 moved_sound blocks budget place base n sound can = moved_sound_at blocks budget place base n sound can (held blocks place) refl
 
 moved_fits_at : (blocks : List (Option MemoryBlock)) (place base : ℕ) → place < length blocks → HoldBytes blocks →
-    (o : Option MemoryBlock) → held blocks place ≡ o →
-    HoldBytes (slice_set blocks place (at_base base o))
+    (o : Option MemoryBlock) → held blocks place ≡ o → HoldBytes (slice_set blocks place (at_base base o))
 moved_fits_at blocks place base within fits None e = bytes_put blocks place None within fits (λ block f at. absurd cc)
 moved_fits_at blocks place base within fits (Some was) e =
     bytes_put blocks place (at_base base (Some was)) within fits (λ block f at.
@@ -320,14 +309,12 @@ locked_sound_at blocks budget place page n sound within few (Some block) e =
     (let pages : pages_of_block (held blocks place) ≡ length block.locks = ap pages_of_block e in omega arith)
 
 pub locked_sound : (blocks : List (Option MemoryBlock)) (budget place at n : ℕ) → SoundBlocks blocks budget → place < MAX_BLOCKS →
-    n ≤ GREATEST_LOCK_COUNT →
-    SoundBlocks (with_lock blocks (Block (suc place) at) n) budget
+    n ≤ GREATEST_LOCK_COUNT → SoundBlocks (with_lock blocks (Block (suc place) at) n) budget
 locked_sound blocks budget place at n sound within few =
     locked_sound_at blocks budget place (at / PAGE_SIZE) n sound within few (held blocks place) refl
 
 locked_fits_at : (blocks : List (Option MemoryBlock)) (place page n : ℕ) → place < length blocks → HoldBytes blocks →
-    (o : Option MemoryBlock) → held blocks place ≡ o →
-    HoldBytes (slice_set blocks place (with_page_lock o page n))
+    (o : Option MemoryBlock) → held blocks place ≡ o → HoldBytes (slice_set blocks place (with_page_lock o page n))
 locked_fits_at blocks place page n within fits None e = bytes_put blocks place None within fits (λ block f at. absurd cc)
 locked_fits_at blocks place page n within fits (Some was) e =
     bytes_put blocks place (with_page_lock (Some was) page n) within fits (λ block f at.
@@ -367,8 +354,7 @@ copies_few : (n most k : ℕ) → slice_index (copies n 0) k ≤ most
 copies_few n most k = grind (arith, at_copies, get_or_past, length-copies)
 
 zeroed_sound_at : (blocks : List (Option MemoryBlock)) (budget place page : ℕ) → SoundBlocks blocks budget → place < MAX_BLOCKS →
-    (o : Option MemoryBlock) →
-    held blocks place ≡ o → SoundBlocks (slice_set blocks place (with_zero_page o page)) budget
+    (o : Option MemoryBlock) → held blocks place ≡ o → SoundBlocks (slice_set blocks place (with_zero_page o page)) budget
 zeroed_sound_at blocks budget place page sound within None e =
     sound_put blocks budget place None sound within (λ block f. absurd cc) (λ block f other there ne g. absurd cc)
     (let sum = sound.within in omega arith)
@@ -394,8 +380,7 @@ zeroed_sound blocks budget place at sound within =
     zeroed_sound_at blocks budget place (at / PAGE_SIZE) sound within (held blocks place) refl
 
 zeroed_fits_at : (blocks : List (Option MemoryBlock)) (place page : ℕ) → place < length blocks → HoldBytes blocks →
-    (o : Option MemoryBlock) → held blocks place ≡ o →
-    HoldBytes (slice_set blocks place (with_zero_page o page))
+    (o : Option MemoryBlock) → held blocks place ≡ o → HoldBytes (slice_set blocks place (with_zero_page o page))
 zeroed_fits_at blocks place page within fits None e = bytes_put blocks place None within fits (λ block f at. absurd cc)
 zeroed_fits_at blocks place page within fits (Some was) e =
     bytes_put blocks place (with_zero_page (Some was) page) within fits (λ block f at.

@@ -23,9 +23,8 @@ frame_named entry = entry / PAGE_SIZE - BUDGET_FRAMES
 
 -- two pages have two frames
 other_frame : (handles tables taken : List ℕ) (budget page other : ℕ) → HasBlockEntries handles tables taken budget →
-    page < BLOCK_REGION_PAGES → other < BLOCK_REGION_PAGES →
-    page ≢ other → NamesBudgetFrame budget (entry_of tables page) → NamesBudgetFrame budget (entry_of tables other) →
-    frame_named (entry_of tables other) ≢ frame_named (entry_of tables page)
+    page < BLOCK_REGION_PAGES → other < BLOCK_REGION_PAGES → page ≢ other → NamesBudgetFrame budget (entry_of tables page) →
+    NamesBudgetFrame budget (entry_of tables other) → frame_named (entry_of tables other) ≢ frame_named (entry_of tables page)
 other_frame handles tables taken budget page other h small less ne p q same = grind arith
 
 abbrev cleared_frame : List ℕ → ℕ → List ℕ
@@ -102,8 +101,7 @@ cleared_bytes handles tables taken frames budget place page frame c =
     ]
 
 cleared_block : (handles tables locks taken frames : List ℕ) (budget place page frame : ℕ) →
-    Clears handles tables taken frames budget place page frame →
-    held_block handles tables locks (cleared_frame frames frame) place
+    Clears handles tables taken frames budget place page frame → held_block handles tables locks (cleared_frame frames frame) place
     ≡ record (held_block handles tables locks frames
     place) { bytes = put (held_block handles tables locks frames place).bytes (PAGE_SIZE * page) (copies PAGE_SIZE 0) }
 unfolding held_block
@@ -111,8 +109,7 @@ cleared_block handles tables locks taken frames budget place page frame c =
     rw (cleared_bytes handles tables taken frames budget place page frame c) refl
 
 other_cleared : (handles tables locks taken frames : List ℕ) (budget place page frame : ℕ) →
-    Clears handles tables taken frames budget place page frame →
-    (other : ℕ) → other < MAX_BLOCKS → other ≢ place →
+    Clears handles tables taken frames budget place page frame → (other : ℕ) → other < MAX_BLOCKS → other ≢ place →
     block_in handles tables locks (cleared_frame frames frame) other ≡ block_in handles tables locks frames other
 unfolding held_block
 other_cleared handles tables locks taken frames budget place page frame c other small ne =
@@ -134,8 +131,7 @@ pub record ClearsPage (b : List ℕ) (budget lin : ℕ) : Type 0 where
   pub addresses : (p : Place) → address_of (page_cleared b lin) p ≡ address_of b p
 
 pub clears_page : (b : List ℕ) (budget lin : ℕ) → Holds b budget → HasRanges (handles_part b) →
-    IsBlocks (place_in (blocks_held b budget) lin) →
-    ClearsPage b budget lin
+    IsBlocks (place_in (blocks_held b budget) lin) → ClearsPage b budget lin
 clears_page b budget lin holds ranges is =
     let p = parts_of b budget in
     let sizes = sizes_of b budget (host_of b budget holds) in

@@ -59,8 +59,7 @@ fresh_is blocks budget base pages can =
     }
 
 pub made_good : (blocks : List (Option MemoryBlock)) (budget handle base pages : ℕ) → Good blocks budget → 0 < handle →
-    handle ≤ MAX_BLOCKS →
-    CanMake blocks budget base pages → Good (with_block_at blocks handle (Some (fresh_block base pages))) budget
+    handle ≤ MAX_BLOCKS → CanMake blocks budget base pages → Good (with_block_at blocks handle (Some (fresh_block base pages))) budget
 made_good blocks budget zero base pages g some most can = absurd (omega arith)
 made_good blocks budget (suc place) base pages g some most can =
     let x = fresh_block base pages in
@@ -111,8 +110,7 @@ sized_bytes : (base pages : ℕ) (block : MemoryBlock) → length block.bytes �
 sized_bytes base pages block size = long_kept block.bytes (PAGE_SIZE * pages) (PAGE_SIZE * (pages - length block.locks)) ∙ omega arith
 
 sized_good : (blocks : List (Option MemoryBlock)) (budget place base pages : ℕ) (own : MemoryBlock) → Good blocks budget →
-    place < MAX_BLOCKS →
-    slice_index_or blocks place None ≡ Some own → CanSize blocks budget (suc place) base pages →
+    place < MAX_BLOCKS → slice_index_or blocks place None ≡ Some own → CanSize blocks budget (suc place) base pages →
     Good (slice_set blocks place (Some (sized base pages own))) budget
 sized_good blocks budget place base pages own g within there can =
     let x = sized base pages own in
@@ -140,8 +138,7 @@ sized_good blocks budget place base pages own g within there can =
     }
 
 resized_at_block : (blocks : List (Option MemoryBlock)) (budget place base pages : ℕ) (own : Option MemoryBlock) → Good blocks budget →
-    place < MAX_BLOCKS →
-    slice_index_or blocks place None ≡ own → CanSize blocks budget (suc place) base pages →
+    place < MAX_BLOCKS → slice_index_or blocks place None ≡ own → CanSize blocks budget (suc place) base pages →
     Good (slice_set blocks place (sized_block base pages own)) budget
 unfolding sized_block
 resized_at_block blocks budget place base pages None g within there can = absurd (can.held there)

@@ -44,8 +44,7 @@ readable_place (Some own ∷ blocks) handle lin = elim (cases_Bool (covers own l
 -- a page of the block region is a block's where the client may read its first byte
 pub page_of_block : (blocks : List (Option MemoryBlock)) (page : ℕ) → BLOCK_REGION ≤ PAGE_SIZE * page →
     PAGE_SIZE * page < BLOCK_REGION_END → may_touch (page_place blocks page) false ≡ is_blocks (page_place blocks page)
-page_of_block blocks page from to =
-    rw (place-block blocks (PAGE_SIZE * page) from to) (readable_place blocks 1 (PAGE_SIZE * page))
+page_of_block blocks page from to = rw (place-block blocks (PAGE_SIZE * page) from to) (readable_place blocks 1 (PAGE_SIZE * page))
 
 -- the loops in code
 
@@ -87,14 +86,11 @@ set_next on pages page end below =
     ap (with_pages on pages page) k ∙ set_more on pages page (end - (page + 1))
 
 pub set_done : (on : Bool) (pages : List Bool) (page end : ℕ) → end ≤ page → with_pages on pages page (end - page) ≡ pages
-set_done on pages page end beyond =
-    let k : end - page ≡ 0 = omega arith in
-    ap (with_pages on pages page) k ∙ set_none on pages page
+set_done on pages page end beyond = let k : end - page ≡ 0 = omega arith in ap (with_pages on pages page) k ∙ set_none on pages page
 
 -- worlds of which the blocks, or the pageable pages, alone have changed
 pub only_blocks : (w a b : World) (blocks : List (Option MemoryBlock)) → a ≡ record w { blocks = a.blocks } →
-    b ≡ record a { blocks = blocks } →
-    b ≡ record w { blocks = b.blocks }
+    b ≡ record a { blocks = blocks } → b ≡ record w { blocks = b.blocks }
 only_blocks w a b blocks first second =
     second ∙ ap (λ (v : World). record v { blocks = blocks }) first
     ∙ ap (λ (bs : List (Option MemoryBlock)). record w { blocks = bs }) (sym (ap (λ (v : World). v.blocks) second))

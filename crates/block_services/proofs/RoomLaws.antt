@@ -23,8 +23,7 @@ none_of (Some x) e = absurd cc
 
 -- the answer is no for each page
 pub no_page_holds : (question : Question) (w : World) (first n : ℕ) → some_page question w first n ≡ false → (page : ℕ) → first ≤ page →
-    page < first + n →
-    page_answer question w page ≡ false
+    page < first + n → page_answer question w page ≡ false
 unfolding some_page
 no_page_holds question w first n e page from to =
     first_none (page_answer question w) first n (none_of (first_index (page_answer question w) first n) e) page from to
@@ -36,8 +35,7 @@ in_view w first n e page from to =
     (not-true (nat_le DOS_VIEW_PAGES page) (not-false (is_in_view page) (no_page_holds IsAboveView w first n e page from to)))
 
 beside : (blocks : List (Option MemoryBlock)) (budget handle pages other : ℕ) (own : MemoryBlock) → SoundBlocks blocks budget →
-    block_at blocks handle ≡ Some own →
-    pages ≤ length own.locks → other ≢ handle → (b : Option MemoryBlock) → block_at blocks other ≡ b →
+    block_at blocks handle ≡ Some own → pages ≤ length own.locks → other ≢ handle → (b : Option MemoryBlock) → block_at blocks other ≡ b →
     overlaps (row_seen b) own.base pages ≡ false
 beside blocks budget handle pages other own sound there few ne None e = refl
 beside blocks budget handle pages other own sound there few ne (Some block) e =
@@ -46,16 +44,14 @@ beside blocks budget handle pages other own sound there few ne (Some block) e =
     grind (arith, and_left, and_right, le-ltb)
 
 not_in_way : (blocks : List (Option MemoryBlock)) (budget handle pages : ℕ) (own : MemoryBlock) → SoundBlocks blocks budget →
-    block_at blocks handle ≡ Some own →
-    pages ≤ length own.locks → (other : ℕ) → is_in_way blocks handle own.base pages other ≡ false
+    block_at blocks handle ≡ Some own → pages ≤ length own.locks → (other : ℕ) → is_in_way blocks handle own.base pages other ≡ false
 not_in_way blocks budget handle pages own sound there few other = elim (cases_eq other handle) [
   | inl same ↦ and_left _ _ (not_from_true (nat_eq other handle) (eq-eqb other handle same))
   | inr ne ↦ and_right _ _ (beside blocks budget handle pages other own sound there few ne (block_at blocks other) refl)
 ]
 
 own_gap : (blocks : List (Option MemoryBlock)) (budget handle pages : ℕ) (own : MemoryBlock) → SoundBlocks blocks budget →
-    block_at blocks handle ≡ Some own →
-    pages ≤ length own.locks → is_gap blocks handle own.base pages ≡ true
+    block_at blocks handle ≡ Some own → pages ≤ length own.locks → is_gap blocks handle own.base pages ≡ true
 unfolding is_gap block_in_way
 own_gap blocks budget handle pages own sound there few =
     let is = sound.each handle own there in
@@ -65,11 +61,9 @@ own_gap blocks budget handle pages own sound there few =
     (λ k l u. not_in_way blocks budget handle pages own sound there few k)))
 
 pub stays : (w : World) (handle pages : ℕ) (own : MemoryBlock) → IsSound w → block_at w.blocks handle ≡ Some own →
-    pages ≤ length own.locks →
-    new_base w.blocks handle pages ≡ Some own.base
+    pages ≤ length own.locks → new_base w.blocks handle pages ≡ Some own.base
 unfolding new_base
-stays w handle pages own s there few =
-    rw (ap base_of_block there, own_gap w.blocks w.budget handle pages own s.blocks there few) refl
+stays w handle pages own s there few = rw (ap base_of_block there, own_gap w.blocks w.budget handle pages own s.blocks there few) refl
 
 -- the largest run
 
@@ -101,15 +95,12 @@ none_is None e = refl
 none_is (Some x) e = absurd cc
 
 pub passed : (blocks : List (Option MemoryBlock)) (budget own base pages : ℕ) → SoundBlocks blocks budget →
-    (other : ℕ) (block : MemoryBlock) → other ≢ own →
-    block_at blocks other ≡ Some block → is_in_way blocks own base pages other ≡ false →
+    (other : ℕ) (block : MemoryBlock) → other ≢ own → block_at blocks other ≡ Some block → is_in_way blocks own base pages other ≡ false →
     (base + PAGE_SIZE * pages ≤ block.base) ⊎ (block.base + length block.bytes ≤ base)
-passed blocks budget own base pages sound other block ne e out =
-    grind (arith, and_cases, ltb-false, ne_eqb, not_from_false, true≢false)
+passed blocks budget own base pages sound other block ne e out = grind (arith, and_cases, ltb-false, ne_eqb, not_from_false, true≢false)
 
 pub gap_is_room : (blocks : List (Option MemoryBlock)) (budget own base pages : ℕ) → SoundBlocks blocks budget →
-    is_gap blocks own base pages ≡ true →
-    Room blocks own base pages
+    is_gap blocks own base pages ≡ true → Room blocks own base pages
 unfolding is_gap block_in_way
 gap_is_room blocks budget own base pages sound e =
     let parts = and_parts (nat_le (base + PAGE_SIZE * pages) BLOCK_REGION_END)
@@ -146,8 +137,7 @@ pub record PlaceFor (blocks : List (Option MemoryBlock)) (handle base pages : �
       (base + PAGE_SIZE * pages ≤ block.base) ⊎ (block.base + length block.bytes ≤ base)
 
 place_at_gap : (blocks : List (Option MemoryBlock)) (budget handle pages : ℕ) → SoundBlocks blocks budget → (gap : Option ℕ) →
-    first_gap blocks pages ≡ gap →
-    (base : ℕ) → gap_address gap ≡ Some base → PlaceFor blocks handle base pages
+    first_gap blocks pages ≡ gap → (base : ℕ) → gap_address gap ≡ Some base → PlaceFor blocks handle base pages
 place_at_gap blocks budget handle pages sound None e base is = absurd cc
 place_at_gap blocks budget handle pages sound (Some page) e base is =
     let at : page_address page ≡ base = cc is in
@@ -155,8 +145,7 @@ place_at_gap blocks budget handle pages sound (Some page) e base is =
     subst (λ (x : ℕ). PlaceFor blocks handle x pages) at (grind (arith, handle_within))
 
 new_place : (blocks : List (Option MemoryBlock)) (budget handle base pages : ℕ) → SoundBlocks blocks budget → (own : Option MemoryBlock) →
-    block_at blocks handle ≡ own →
-    own ≢ None → new_base blocks handle pages ≡ Some base → PlaceFor blocks handle base pages
+    block_at blocks handle ≡ own → own ≢ None → new_base blocks handle pages ≡ Some base → PlaceFor blocks handle base pages
 unfolding new_base
 new_place blocks budget handle base pages sound None there held e = absurd (held refl)
 new_place blocks budget handle base pages sound (Some block) there held e =
@@ -171,10 +160,8 @@ new_place blocks budget handle base pages sound (Some block) there held e =
     ]
 
 pub can_size : (blocks : List (Option MemoryBlock)) (budget handle base pages : ℕ) → SoundBlocks blocks budget →
-    block_at blocks handle ≢ None →
-    new_base blocks handle pages ≡ Some base → 0 < pages →
-    pages - pages_of_block (block_at blocks handle) ≤ budget - pages_of_blocks blocks →
-    CanSize blocks budget handle base pages
+    block_at blocks handle ≢ None → new_base blocks handle pages ≡ Some base → 0 < pages →
+    pages - pages_of_block (block_at blocks handle) ≤ budget - pages_of_blocks blocks → CanSize blocks budget handle base pages
 can_size blocks budget handle base pages sound held e some few =
     let place = new_place blocks budget handle base pages sound (block_at blocks handle) refl held e in
     let within = sound.within in

@@ -107,8 +107,7 @@ unfolding lowest_handle
 lowest_is blocks handle e = grind (arith, first_is)
 
 sound_made : (w : World) (gap handle : Option ℕ) → IsSound w → w.width ≢ None → first_gap w.blocks (asked_pages w) ≡ gap →
-    lowest_handle w.blocks ≡ handle →
-    0 < asked_pages w → asked_pages w ≤ free_pages w → IsSound (with_new_block gap handle w)
+    lowest_handle w.blocks ≡ handle → 0 < asked_pages w → asked_pages w ≤ free_pages w → IsSound (with_new_block gap handle w)
 sound_made w None handle s width e f some few = s
 sound_made w (Some page) None s width e f some few = s
 sound_made w (Some page) (Some handle) s width e f some few =
@@ -129,8 +128,7 @@ not_none (Some b) e same = absurd cc
 
 sound_resized : (w : World) (base : Option ℕ) → IsSound w → w.width ≢ None → new_base w.blocks (si_di w) (asked_pages w) ≡ base →
     is_none (block_at w.blocks (si_di w)) ≡ false → 0 < asked_pages w →
-    asked_pages w - pages_of_block (block_at w.blocks (si_di w)) ≤ free_pages w →
-    IsSound (with_resized_block base w)
+    asked_pages w - pages_of_block (block_at w.blocks (si_di w)) ≤ free_pages w → IsSound (with_resized_block base w)
 sound_resized w None s width e held some few = s
 sound_resized w (Some base) s width e held some few =
     sound_general _ _ _ _ _ (sound_good w _ s width

@@ -58,16 +58,14 @@ pub found_last : (spans : List Span) (i page n : ℕ) → length spans ≤ i →
 found_last spans i page n past fits =
     ap (λ (xs : List Span). found xs page n) (none_left spans i past) ∙ rw (le-leb (page + n) BLOCK_REGION_PAGES fits) refl
 
-pub found_none : (spans : List Span) (i page n : ℕ) → length spans ≤ i → BLOCK_REGION_PAGES < page + n →
-    found (drop i spans) page n ≡ None
+pub found_none : (spans : List Span) (i page n : ℕ) → length spans ≤ i → BLOCK_REGION_PAGES < page + n → found (drop i spans) page n ≡ None
 found_none spans i page n past short =
     ap (λ (xs : List Span). found xs page n) (none_left spans i past) ∙ rw (lt-leb (page + n) BLOCK_REGION_PAGES short) refl
 
 max_in : (a b c : ℕ) → max (max a b) c ≡ max a (max b c)
 max_in a b c = omega arith
 
-pub widest_next : (spans : List Span) (i page best : ℕ) (d : Span) → i < length spans →
-    max best (widest (drop i spans) page)
+pub widest_next : (spans : List Span) (i page best : ℕ) (d : Span) → i < length spans → max best (widest (drop i spans) page)
     ≡ max (max best ((get_or spans i d).first - page)) (widest (drop (i + 1) spans) (max page (get_or spans i d).after))
 widest_next spans i page best d small =
     ap (λ (xs : List Span). max best (widest xs page)) (rest_is spans i d small)

@@ -71,8 +71,7 @@ unfolding is_gap
 gap_here blocks own base pages room none = and_from _ _ (le-leb (base + PAGE_SIZE * pages) BLOCK_REGION_END room) (ap is_none none)
 
 pub gap_found : (blocks : List (Option MemoryBlock)) (page pages : ℕ) → page < BLOCK_REGION_PAGES →
-    is_gap blocks 0 (page_address page) pages ≡ true →
-    first_index (gap_at blocks pages) page (BLOCK_REGION_PAGES - page) ≡ Some page
+    is_gap blocks 0 (page_address page) pages ≡ true → first_index (gap_at blocks pages) page (BLOCK_REGION_PAGES - page) ≡ Some page
 gap_found blocks page pages below e = index_found (gap_at blocks pages) page BLOCK_REGION_PAGES below e
 
 abbrev pub is_free : List (Option MemoryBlock) → ℕ → Bool

@@ -92,5 +92,4 @@ serve_left w ax =
 
 pub refused_world : (w : World) (ax : ℕ) → (callback_service ax w).carry ≡ Set → HasOtherAx w (callback_service ax w).world
 unfolding callback_service
-refused_world w ax e =
-    let f = callback_function ax w in refused_by_family (first_reason f.reasons) w f.after e
+refused_world w ax e = let f = callback_function ax w in refused_by_family (first_reason f.reasons) w f.after e

@@ -163,8 +163,7 @@ sound_leave w u s e =
 
 -- what is written at a pointer is read there
 put_back : (w : World) (p : FarPtr) (n : ℕ) (bytes : List ℕ) → IsSound w → n < PAGE_SIZE → length bytes ≡ n →
-    is_reachable w p n true ≡ true →
-    far_bytes (world_after_far_write w p n bytes) p n ≡ bytes
+    is_reachable w p n true ≡ true → far_bytes (world_after_far_write w p n bytes) p n ≡ bytes
 put_back w p n bytes s few size there =
     ap (λ (x : World). far_bytes x p n) (sym (world_far_written (record { world = w; bytes = [] }) p n bytes))
     ∙ written_is_read (record { world = w; bytes = [] }) p n bytes s (omega arith) size there
@@ -197,8 +196,7 @@ same_regs w procedure at = refl
 
 row_there : (w : World) → IsSound w → depth w < GREATEST_DEPTH → row_at_index (with_stack_row w).descriptors (stack_index w) ≡ stack_row w
 unfolding with_stack_row
-row_there w s room =
-    let indices = s.descriptors.indices in get_or-set_same w.descriptors (stack_index w) (stack_row w) None (omega arith)
+row_there w s room = let indices = s.descriptors.indices in get_or-set_same w.descriptors (stack_index w) (stack_row w) None (omega arith)
 
 record IsEntered (w v : World) (procedure at : FarPtr) : Type 0 where
   pub mode : v.mode ≡ Protected

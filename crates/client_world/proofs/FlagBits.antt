@@ -77,8 +77,7 @@ image_bits f i =
 pub read : (x : ℕ) (b : Bool) → x ≡ bit b → nat_eq x 1 ≡ b
 read x b is = ap (λ k. nat_eq k 1) is ∙ bit-is b
 
-same_flags : (f : Flags) (c p a z s d o : Bool) → c ≡ f.cf → p ≡ f.pf → a ≡ f.af → z ≡ f.zf → s ≡ f.sf →
-    d ≡ f.df → o ≡ f.of →
+same_flags : (f : Flags) (c p a z s d o : Bool) → c ≡ f.cf → p ≡ f.pf → a ≡ f.af → z ≡ f.zf → s ≡ f.sf → d ≡ f.df → o ≡ f.of →
     record { cf = c; pf = p; af = a; zf = z; sf = s; df = d; of = o } ≡ f
 same_flags f c p a z s d o ec ep ea ez es ed eo = rw (ec, ep, ea, ez, es, ed, eo) refl
 

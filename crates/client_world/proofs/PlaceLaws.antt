@@ -28,14 +28,12 @@ place-dos blocks l h = rw (lt_yes l DOS_VIEW_END h) refl
 
 pub place-gap : (blocks : List (Option MemoryBlock)) (l : ℕ) → DOS_VIEW_END ≤ l → l < BLOCK_REGION → place_in blocks l ≡ Nothing
 unfolding place_in
-place-gap blocks l from to =
-    rw (lt_no l DOS_VIEW_END from, le_no BLOCK_REGION l to, le_no HOST_WINDOW l (omega arith)) refl
+place-gap blocks l from to = rw (lt_no l DOS_VIEW_END from, le_no BLOCK_REGION l to, le_no HOST_WINDOW l (omega arith)) refl
 
 pub place-block : (blocks : List (Option MemoryBlock)) (l : ℕ) → BLOCK_REGION ≤ l → l < BLOCK_REGION_END →
     place_in blocks l ≡ block_place blocks 1 l
 unfolding place_in
-place-block blocks l from to =
-    rw (lt_no l DOS_VIEW_END (omega arith), le_yes BLOCK_REGION l from, lt_yes l BLOCK_REGION_END to) refl
+place-block blocks l from to = rw (lt_no l DOS_VIEW_END (omega arith), le_yes BLOCK_REGION l from, lt_yes l BLOCK_REGION_END to) refl
 
 pub place-gap_above_blocks : (blocks : List (Option MemoryBlock)) (l : ℕ) → BLOCK_REGION_END ≤ l → l < HOST_WINDOW →
     place_in blocks l ≡ Nothing

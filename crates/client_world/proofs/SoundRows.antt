@@ -93,8 +93,7 @@ sound_runs rows index row arena s size can = record {
         }
 
 sound_width : (width : Option Width) (w : World) (index : ℕ) (row : Row) → SoundWidth width w → width ≢ None →
-    index < length w.descriptors →
-    SuitsHost index row → SoundWidth width (record w { descriptors = slice_set w.descriptors index row })
+    index < length w.descriptors → SuitsHost index row → SoundWidth width (record w { descriptors = slice_set w.descriptors index row })
 sound_width None w index row s some within suits = absurd (some refl)
 sound_width (Some width) w index row s some within suits = record {
   code = get_or-set_other w.descriptors index HOST_CODE row None (λ e. suits.code (sym e)) ∙ s.code;
@@ -116,8 +115,7 @@ sound_with_rows w width rows s descriptors runs own = assumption
 
 -- the world with another row
 pub row_keeps_sound : (w : World) (index : ℕ) (row : Row) → IsSound w → w.width ≢ None → CanStand w.descriptors index row →
-    SuitsHost index row →
-    IsSound (record w { descriptors = slice_set w.descriptors index row })
+    SuitsHost index row → IsSound (record w { descriptors = slice_set w.descriptors index row })
 row_keeps_sound w index row s some can suits =
     sound_with_rows w w.width (slice_set w.descriptors index row) s (sound_descriptors w.descriptors index row s.descriptors can)
     (sound_runs w.descriptors index row w.arena s.runs s.descriptors.indices can)
@@ -126,8 +124,7 @@ row_keeps_sound w index row s some can suits =
 -- ---- a row of the host
 
 pub host_stands : (rows : List Row) (index : ℕ) (d : Desc) → index < DESCRIPTORS → FitsDescriptor d →
-    ¬ IsOfDosBlock (row_at_index rows index) →
-    CanStand rows index (Some (d, Host))
+    ¬ IsOfDosBlock (row_at_index rows index) → CanStand rows index (Some (d, Host))
 host_stands rows index d within fits old = record {
   within = within;
   fits = fits;

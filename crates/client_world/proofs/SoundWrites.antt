@@ -76,8 +76,7 @@ like_written old new at v block w e = elim w [
 
 pub was_like : (blocks : List (Option MemoryBlock)) (number at v other : ℕ) (block : MemoryBlock) →
     block_at (written blocks number at v) other ≡ Some block → WasLike (block_at blocks other) block
-was_like blocks number at v other block e =
-    like_written (block_at blocks other) _ at v block (written_at blocks number at v other) e
+was_like blocks number at v other block e = like_written (block_at blocks other) _ at v block (written_at blocks number at v other) e
 
 -- where there was none there is none
 pub written_none : (blocks : List (Option MemoryBlock)) (number at v other : ℕ) → block_at blocks other ≡ None →

@@ -45,8 +45,7 @@ from_above-carry_above w a true h = rw (mod-mul-add 1 (2 ^ w) a h, div-mul-add 1
 from_above-carry_above w a false h = rw (mod-mul-add 0 (2 ^ w) a h, div-mul-add 0 (2 ^ w) a h) refl
 
 -- SHL: the number with the carry flag above is doubled each time
-pub shl_bits : (w n a : ℕ) (c : Bool) → IsWidth w → a < 2 ^ w →
-    bits_moved (shl_bit w) n (a, c) ≡ from_above w (carry_above w a c * 2 ^ n)
+pub shl_bits : (w n a : ℕ) (c : Bool) → IsWidth w → a < 2 ^ w → bits_moved (shl_bit w) n (a, c) ≡ from_above w (carry_above w a c * 2 ^ n)
 unfolding bits_moved
 shl_bits w zero a c h k = rw mul-one (sym (from_above-carry_above w a c k))
 shl_bits w (suc n) a c h k =
@@ -68,8 +67,7 @@ sar_bit-low w v k h =
     rw (top, add-zero) refl
 
 -- SAR by one bit of a negative number, by its complement
-sar_bit-high : (w v : ℕ) → IsWidth w → v < 2 ^ w →
-    sar_bit w (from_below (2 * 2 ^ w - 1 - v)) ≡ from_below (2 * 2 ^ w - 1 - v / 2)
+sar_bit-high : (w v : ℕ) → IsWidth w → v < 2 ^ w → sar_bit w (from_below (2 * 2 ^ w - 1 - v)) ≡ from_below (2 * 2 ^ w - 1 - v / 2)
 sar_bit-high w v k h =
     let m = half_modulus w k in
     let top : top_bit w ((2 * 2 ^ w - 1 - v) / 2) ≡ true = le-leb (2 ^ (w - 1)) ((2 * 2 ^ w - 1 - v) / 2) (omega arith) in

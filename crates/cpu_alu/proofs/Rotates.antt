@@ -39,9 +39,7 @@ rol_bits w (suc n) a c k h pos =
 -- ROR: the word
 ror_word : (w n a : ℕ) (c : Bool) → 0 < w → a < 2 ^ w → (bits_moved (ror_bit w) n (a, c)).0 ≡ turned w a (w - n % w)
 unfolding bits_moved
-ror_word w zero a c k h =
-    let whole : w - 0 ≡ w = omega arith in
-    rw (zero-mod, whole) (sym (turned-all w a))
+ror_word w zero a c k h = let whole : w - 0 ≡ w = omega arith in rw (zero-mod, whole) (sym (turned-all w a))
 ror_word w (suc n) a c k h =
     let below = turned_below_all w a (w - suc n % w) (omega arith) h in
     rw (ror_word w n a c k h, turned_back w a n k h) (right_once-left_once w (turned w a (w - suc n % w)) k below)
@@ -100,8 +98,7 @@ rcl_bit-low w v k h =
     rw (left_once-low (w + 1) v (omega arith) below, mod-eq_of_lt h, div-eq_of_lt h, add-zero, carry) refl
 
 -- RCL by one bit where it is set
-rcl_bit-high : (w v : ℕ) → IsWidth w → 2 ^ w ≤ v → v < 2 ^ (w + 1) →
-    rcl_bit w (from_above w v) ≡ from_above w (left_once (w + 1) v)
+rcl_bit-high : (w v : ℕ) → IsWidth w → 2 ^ w ≤ v → v < 2 ^ (w + 1) → rcl_bit w (from_above w v) ≡ from_above w (left_once (w + 1) v)
 rcl_bit-high w v k high h =
     let m = half_modulus w k in
     let mm = one_more w in
@@ -116,8 +113,7 @@ rcl_bit-high w v k high h =
     rw (once, mod_past (2 ^ w) v high (omega arith), div_past (2 ^ w) v high (omega arith)) (pair-eq word carry)
 
 -- RCL by one bit turns word and carry flag by one to the left
-rcl_bit-above : (w v : ℕ) → IsWidth w → v < 2 ^ (w + 1) →
-    rcl_bit w (from_above w v) ≡ from_above w (left_once (w + 1) v)
+rcl_bit-above : (w v : ℕ) → IsWidth w → v < 2 ^ (w + 1) → rcl_bit w (from_above w v) ≡ from_above w (left_once (w + 1) v)
 rcl_bit-above w v k h = elim (cases_lt v (2 ^ w)) [
   | inl low ↦ rcl_bit-low w v k low
   | inr high ↦ rcl_bit-high w v k high h
@@ -137,8 +133,7 @@ rcr_word w v k h =
     ]
 
 -- RCR by one bit turns word and carry flag by one to the right
-rcr_bit-above : (w v : ℕ) → IsWidth w → v < 2 ^ (w + 1) →
-    rcr_bit w (from_above w v) ≡ from_above w (right_once (w + 1) v)
+rcr_bit-above : (w v : ℕ) → IsWidth w → v < 2 ^ (w + 1) → rcr_bit w (from_above w v) ≡ from_above w (right_once (w + 1) v)
 rcr_bit-above w v k h =
     let mm = one_more w in
     let word = rcr_word w v k h in

@@ -16,15 +16,11 @@ right_once k v = v / 2 + (if low_bit v then 2 ^ (k - 1) else 0)
 
 -- the remainder of a number less than twice the divisor
 pub mod_past : (m x : ℕ) → m ≤ x → x < 2 * m → x % m ≡ x - m
-mod_past m x h small =
-    let e : 1 * m + (x - m) ≡ x = omega arith in
-    rw e at (mod-mul-add 1 m (x - m) (omega arith))
+mod_past m x h small = let e : 1 * m + (x - m) ≡ x = omega arith in rw e at (mod-mul-add 1 m (x - m) (omega arith))
 
 -- and its quotient
 pub div_past : (m x : ℕ) → m ≤ x → x < 2 * m → x / m ≡ 1
-div_past m x h small =
-    let e : 1 * m + (x - m) ≡ x = omega arith in
-    rw e at (div-mul-add 1 m (x - m) (omega arith))
+div_past m x h small = let e : 1 * m + (x - m) ≡ x = omega arith in rw e at (div-mul-add 1 m (x - m) (omega arith))
 
 -- twice the half of a power
 pub power_half : (k : ℕ) → 0 < k → 2 ^ k ≡ 2 * 2 ^ (k - 1)
@@ -77,8 +73,7 @@ record Turn (h s t : ℕ) : Type 0 where
   below : s < 2 * h
 
 -- the lower part r of q * 2 numbers goes up by p and the upper part z comes down; then by one bit more
-turn_parts : (p q r z y l : ℕ) → z < p → r < q * 2 →
-    (y ≡ 2 * z) × (l ≡ r) × (r < q) ⊎ (y ≡ 2 * z + 1) × (l + q ≡ r) →
+turn_parts : (p q r z y l : ℕ) → z < p → r < q * 2 → (y ≡ 2 * z) × (l ≡ r) × (r < q) ⊎ (y ≡ 2 * z + 1) × (l + q ≡ r) →
     Turn (q * p) (r * p + z) (l * (p * 2) + y)
 turn_parts p q r z y l up down (inl h) =
     let below : r * p + z < p * q = mul-add-lt r p z q h.2 up in
@@ -92,8 +87,7 @@ turn_parts p q r z y l up down (inr h) =
 
 -- the parts of a number at q and at q * 2
 parts : (q x : ℕ) → 0 < q →
-    (x / q ≡ 2 * (x / (q * 2))) × (x % q ≡ x % (q * 2)) × (x % (q * 2) < q) ⊎
-    (x / q ≡ 2 * (x / (q * 2)) + 1) × (x % q + q ≡ x % (q * 2))
+    (x / q ≡ 2 * (x / (q * 2))) × (x % q ≡ x % (q * 2)) × (x % (q * 2) < q) ⊎ (x / q ≡ 2 * (x / (q * 2)) + 1) × (x % q + q ≡ x % (q * 2))
 parts q x pos =
     let z = x / (q * 2) in
     let r = x % (q * 2) in
@@ -128,16 +122,12 @@ turned_once k v n h small =
 -- a number turned by no bit
 pub turned-zero : (k v : ℕ) → v < 2 ^ k → turned k v 0 ≡ v
 unfolding turned
-turned-zero k v small =
-    let e : k - 0 ≡ k = omega arith in
-    rw (e, mod-eq_of_lt small, div-eq_of_lt small) (omega arith)
+turned-zero k v small = let e : k - 0 ≡ k = omega arith in rw (e, mod-eq_of_lt small, div-eq_of_lt small) (omega arith)
 
 -- a number turned by all its bits
 pub turned-all : (k v : ℕ) → turned k v k ≡ v
 unfolding turned
-turned-all k v =
-    let e : k - k ≡ 0 = omega arith in
-    rw (e, mod-one, div-one) (omega arith)
+turned-all k v = let e : k - k ≡ 0 = omega arith in rw (e, mod-one, div-one) (omega arith)
 
 -- a turned number has no more bits
 turned_below : (k v n : ℕ) → n < k → v < 2 ^ k → turned k v n < 2 ^ k

@@ -31,8 +31,7 @@ at_place w h Nothing = omega arith
 
 first_small : (w : World) → IsSound w → (r : Result (List Place) Fault) (byte : ℕ) → one_byte (bytes_at w r) ≡ Ok byte → byte < 0x100
 first_small w h (Ok []) byte e = let same : 0 ≡ byte = cc in omega arith
-first_small w h (Ok (p ∷ places)) byte e =
-    let same : byte_of w p ≡ byte = cc in subst (λ (n : ℕ). n < 0x100) same (at_place w h p)
+first_small w h (Ok (p ∷ places)) byte e = let same : byte_of w p ≡ byte = cc in subst (λ (n : ℕ). n < 0x100) same (at_place w h p)
 first_small w h (Err f) byte e = absurd cc
 
 fetched_small : (w : World) → IsSound w → (at byte : ℕ) → code_byte w at ≡ Ok byte → byte < 0x100
@@ -58,9 +57,7 @@ one_more : (w : World) (at n : ℕ) (r : Result ℕ Fault) → code_byte w at �
 one_more w at n (Ok byte) e more =
     let size : length (code_from w at (suc n)) ≡ suc (length (code_from w (at + 1) n)) = ap length (code_next w at n byte e) in
     omega arith
-one_more w at n (Err f) e more =
-    let size : length (code_from w at (suc n)) ≡ 0 = ap length (code_stops w at n f e) in
-    omega arith
+one_more w at n (Err f) e more = let size : length (code_from w at (suc n)) ≡ 0 = ap length (code_stops w at n f e) in omega arith
 
 pub most_code : (w : World) (at n : ℕ) → length (code_from w at n) ≤ n
 most_code w at zero = let size : length (code_from w at 0) ≡ 0 = ap length (code_none w at) in omega arith
@@ -150,8 +147,7 @@ by_decoded v outcome are s (Whole insn len) e =
     let encoded = decoded_whole (has_big_code v.world) insn len bytes are e in
     let parts = take_and_drop len bytes encoded.1 in
     s.whole insn (take len bytes) (drop len bytes) parts.0 encoded.0 ∙ ap (after_instruction v insn) parts.1
-by_decoded v outcome are s Invalid e =
-    let nor = decoded_invalid (has_big_code v.world) (code v.world) are e in s.invalid nor.0 nor.1
+by_decoded v outcome are s Invalid e = let nor = decoded_invalid (has_big_code v.world) (code v.world) are e in s.invalid nor.0 nor.1
 by_decoded v outcome are s More e = where_more v outcome are s e
 
 pub only_outcome : (v : MachineView) (outcome : Result MachineView Event) → AllBytes (code v.world) → IsStep v outcome →

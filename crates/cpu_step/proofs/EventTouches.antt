@@ -239,9 +239,7 @@ of_read w done (From seg off n) =
 
 after_value : (w : World) (r : Result ℕ Event) (rest : ℕ → Act) (v : ℕ) (p : Pending) → r ≡ Ok v →
     elim r as (λ _. Result Pending Event) [ Ok x ↦ plan_result w (rest x) | Err e ↦ Err e ] ≡ Ok p → plan_result w (rest v) ≡ Ok p
-after_value w (Ok x) rest v p is e =
-    let same : x ≡ v = cc in
-    subst (λ (y : ℕ). plan_result w (rest y) ≡ Ok p) same e
+after_value w (Ok x) rest v p is e = let same : x ≡ v = cc in subst (λ (y : ℕ). plan_result w (rest y) ≡ Ok p) same e
 after_value w (Err event) rest v p is e = absurd cc
 
 of_act : (w : World) (done : List Access) (act : Act) (p : Pending) (all : List Access) → accesses_after w done act ≡ Some all →

@@ -90,8 +90,7 @@ pointer_leaves seg w i s = λ p. loaded_leaves w seg _ _ (half_is_word (p / offs
 -- ---- flags, frames, ports and questions
 
 frames_leave : (w : World) (i : Insn) (level n : ℕ) (p : Pending) (rest : Pending → Act) →
-    ((q : Pending) → HoldWords q.regs → LeavesWords (rest q)) →
-    HoldWords p.regs → LeavesWords (push_saved_frames w i level n p rest)
+    ((q : Pending) → HoldWords q.regs → LeavesWords (rest q)) → HoldWords p.regs → LeavesWords (push_saved_frames w i level n p rest)
 unfolding push_saved_frames
 frames_leave w i level zero p rest leaves s = leaves p s
 frames_leave w i level (suc n) p rest leaves s = λ v. frames_leave w i (level + 1) n _ rest leaves (words_pushed _ _ _ _ s)

@@ -181,9 +181,7 @@ AllGranted w (a ∷ rest) = IsGranted w a × AllGranted w rest
 
 pub granted_front : (w : World) (front back : List Access) → AllGranted w (front ++ back) → AllGranted w front × AllGranted w back
 granted_front w [] back all = (tt, all)
-granted_front w (a ∷ front) back all =
-    let rest = granted_front w front back all.1 in
-    ((all.0, rest.0), rest.1)
+granted_front w (a ∷ front) back all = let rest = granted_front w front back all.1 in ((all.0, rest.0), rest.1)
 
 -- ---- all touches
 

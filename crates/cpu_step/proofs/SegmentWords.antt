@@ -47,9 +47,7 @@ read_words (Ok v) next p words e = words v e
 read_words (Err event) next p words e = absurd cc
 
 pub planned_words : (w : World) (act : Act) (p : Pending) → LeavesWords act → plan_result w act ≡ Ok p → HasSegments p.regs
-planned_words w (End (Done q)) p s e =
-    let same : q.regs ≡ p.regs = cc in
-    rw (← same) (segments_of q.regs s)
+planned_words w (End (Done q)) p s e = let same : q.regs ≡ p.regs = cc in rw (← same) (segments_of q.regs s)
 planned_words w (End (Raise f)) p s e = absurd cc
 planned_words w (End (Interrupt number len)) p s e = absurd cc
 planned_words w (Read input rest) p s e =

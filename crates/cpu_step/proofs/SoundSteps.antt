@@ -63,8 +63,7 @@ number_is_bytes width value =
 -- ---- a write: where the access has a fault there are no places
 
 sound_at : (w : World) (r : Result (List Place) Fault) (bytes : List ℕ) → ((places : List Place) → r ≡ Ok places → MayWrite places) →
-    IsSound w →
-    BytesWithin bytes → IsSound (with_bytes_of w (places_of_access r) bytes)
+    IsSound w → BytesWithin bytes → IsSound (with_bytes_of w (places_of_access r) bytes)
 sound_at w (Ok places) bytes may s small = IsSound-with_bytes_of w places bytes s (may places refl) small
 sound_at w (Err f) bytes may s small = s
 
@@ -90,8 +89,7 @@ sound_state v p segments s = IsSound-vif (record v.world { regs = p.regs }) p.vi
 
 sound_unless : (v u : MachineView) (p : Pending) (o : Option Fault) → HasSegments p.regs → IsSound v.world →
     elim o as (λ _. Result MachineView Event) [ Some f ↦ Err (fault f) | None ↦ Ok (with_state p.regs p.vif (after_writes v p.writes)) ]
-    ≡ Ok u →
-    IsSound u.world
+    ≡ Ok u → IsSound u.world
 sound_unless v u p None segments s e =
     let same : with_state p.regs p.vif (after_writes v p.writes) ≡ u = cc in
     subst (λ (m : MachineView). IsSound m.world) same (sound_state (after_writes v p.writes) p segments (sound_all_written v p.writes s))
@@ -107,8 +105,7 @@ row_leaves w insn len s = leaves_if (is_core insn.op insn.first insn.second) (co
     (core_leaves insn.op w insn len s) (flow_leaves insn.op w insn len s)
 
 pub sound_by_plan : (v u : MachineView) (act : Act) (r : Result Pending Event) → plan_result v.world act ≡ r → LeavesWords act →
-    IsSound v.world →
-    after_plan v r ≡ Ok u → IsSound u.world
+    IsSound v.world → after_plan v r ≡ Ok u → IsSound u.world
 unfolding after_plan
 sound_by_plan v u act (Ok p) plan words s e = sound_settled v u p (planned_words v.world act p words plan) s e
 sound_by_plan v u act (Err event) plan words s e = absurd cc
@@ -149,8 +146,7 @@ holds_behind v len held = record {
 
 window_unless : (v u : MachineView) (p : Pending) (o : Option Fault) (w : CodeWindow) → HoldsItsWorld v → IsWindow v w →
     elim o as (λ _. Result MachineView Event) [ Some f ↦ Err (fault f) | None ↦ Ok (with_state p.regs p.vif (after_writes v p.writes)) ]
-    ≡ Ok u →
-    u.world.regs.cs ≡ v.world.regs.cs → IsWindow u w
+    ≡ Ok u → u.world.regs.cs ≡ v.world.regs.cs → IsWindow u w
 window_unless v u p None w held window e same =
     let is : with_state p.regs p.vif (after_writes v p.writes) ≡ u = cc in
     let kept = ap (λ (m : MachineView). m.world.regs.cs) is ∙ same ∙ sym (ap (λ (r : Regs). r.cs) (all_state v p.writes).regs) in
@@ -165,8 +161,7 @@ window_carried v u (Ok p) w held window e same = window_unless v u p (first_writ
 window_carried v u (Err event) w held window e same = absurd cc
 
 window_executed : (v u : MachineView) (insn : Insn) (len : ℕ) (w : CodeWindow) → HoldsItsWorld v → IsWindow v w →
-    after_instruction v insn len ≡ Ok u →
-    u.world.regs.cs ≡ v.world.regs.cs → IsWindow u w
+    after_instruction v insn len ≡ Ok u → u.world.regs.cs ≡ v.world.regs.cs → IsWindow u w
 unfolding after_instruction
 window_executed v u insn len w held window e same =
     let at = view_with_next_eip len v in
@@ -180,8 +175,7 @@ window_step_of v u More w held window e same = absurd cc
 window_step_of v u Invalid w held window e same = absurd cc
 
 window_step : (v u : MachineView) (w : CodeWindow) → HoldsItsWorld v → IsWindow v w → client_step v ≡ Ok u →
-    u.world.regs.cs ≡ v.world.regs.cs →
-    IsWindow u w
+    u.world.regs.cs ≡ v.world.regs.cs → IsWindow u w
 unfolding client_step
 window_step v u w held window e same = window_step_of v u (decoded (has_big_code v.world) (code v.world)) w held window e same
 

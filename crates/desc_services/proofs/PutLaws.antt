@@ -38,8 +38,7 @@ not_host : (o : Origin) → IsPlainOrigin o → o ≢ Host
 not_host o plain e = subst IsPlainOrigin e plain
 
 clients : (width : Option Width) (w : World) (index : ℕ) (row : Desc × Origin) → SoundWidth width w →
-    row_at_index w.descriptors index ≡ Some row →
-    IsPlainOrigin row.1 → IsClientsIndex index
+    row_at_index w.descriptors index ≡ Some row → IsPlainOrigin row.1 → IsClientsIndex index
 clients None w index row s e plain = absurd (none_some row (sym (s.descriptors index) ∙ e))
 clients (Some width) w index row s e plain = record {
   code = λ i. not_host row.1 plain (host_of _ (sym e ∙ ap (row_at_index w.descriptors) i ∙ s.code));

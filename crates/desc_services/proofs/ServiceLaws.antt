@@ -109,8 +109,7 @@ changeable_row None e = absurd cc
 changeable_row (Some r) e = (r, refl, e)
 
 redescribed_sound : (w : World) (sel : ℕ) (row : Desc × Origin) (o : Option Desc) → IsSound w →
-    row_of_selector w.descriptors sel ≡ Some row →
-    is_changeable_origin row.1 ≡ true → ((d : Desc) → o ≡ Some d → FitsDescriptor d) →
+    row_of_selector w.descriptors sel ≡ Some row → is_changeable_origin row.1 ≡ true → ((d : Desc) → o ≡ Some d → FitsDescriptor d) →
     IsSound (record w { descriptors = slice_set w.descriptors (index_of sel) (row_with_desc (Some row) o) })
 redescribed_sound w sel row None s e c fits =
     let at = row_of_held w.descriptors sel row e in
@@ -143,9 +142,7 @@ base_fits (Some row) base d fits small e =
 limited_fits : (d : Desc) (limit : ℕ) (long : Bool) → FitsDescriptor d → nat_lt 0xFFFFF limit ≡ long → limit < 2 ^ 32 →
     FitsDescriptor (desc_with_limit d limit)
 limited_fits d limit true fits e small = rw e (record { base = fits.base; limit = omega arith })
-limited_fits d limit false fits e small =
-    let low = ltb-false 0xFFFFF limit e in
-    rw e (record { base = fits.base; limit = omega arith })
+limited_fits d limit false fits e small = let low = ltb-false 0xFFFFF limit e in rw e (record { base = fits.base; limit = omega arith })
 
 limit_fits : (row : Row) (limit : ℕ) (d : Desc) → FitsRow row → limit < 2 ^ 32 → with_limit row limit ≡ Some d → FitsDescriptor d
 limit_fits None limit d fits small e = absurd cc

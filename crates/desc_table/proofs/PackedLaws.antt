@@ -95,8 +95,7 @@ unpacked-good b at good = rw good
 
 -- what was packed is unpacked
 pub unpacked-packed : (d : Desc) → d.limit < 2 ^ 20 → unpacked (packed d) 0 ≡ Some d
-unpacked-packed d small =
-    unpacked-good (packed d) 0 (is_packed-packed d small) ∙ ap (λ (e : Desc). Some e) (described-packed d small)
+unpacked-packed d small = unpacked-good (packed d) 0 (is_packed-packed d small) ∙ ap (λ (e : Desc). Some e) (described-packed d small)
 
 bit-test : (n : ℕ) → n < 2 → bit (nat_eq n 1) ≡ n
 bit-test zero small = refl
@@ -148,9 +147,8 @@ same_eight : (a b c d e f g h a' b' c' d' e' f' g' h' : ℕ) → a ≡ a' → b 
     a ∷ b ∷ c ∷ d ∷ e ∷ f ∷ g ∷ h ∷ [] ≡ a' ∷ b' ∷ c' ∷ d' ∷ e' ∷ f' ∷ g' ∷ h' ∷ []
 same_eight a b c d e f g h a' b' c' d' e' f' g' h' ea eb ec ed ee ef eg eh = cc
 
-packs_eight : (a b c d e f g h : ℕ) → a < 256 → b < 256 → c < 256 → d < 256 → e < 256 → f < 256 → g < 256 →
-    is_access_byte f ≡ true → has_bit g 0x20 ≡ false →
-    Packs (described (a ∷ b ∷ c ∷ d ∷ e ∷ f ∷ g ∷ h ∷ []) 0) (a ∷ b ∷ c ∷ d ∷ e ∷ (f / 2 * 2 + 1) ∷ g ∷ h ∷ [])
+packs_eight : (a b c d e f g h : ℕ) → a < 256 → b < 256 → c < 256 → d < 256 → e < 256 → f < 256 → g < 256 → is_access_byte f ≡ true →
+    has_bit g 0x20 ≡ false → Packs (described (a ∷ b ∷ c ∷ d ∷ e ∷ f ∷ g ∷ h ∷ []) 0) (a ∷ b ∷ c ∷ d ∷ e ∷ (f / 2 * 2 + 1) ∷ g ∷ h ∷ [])
 unfolding described packed
 packs_eight a b c d e f g h sa sb sc sd se sf sg good clear =
     let limit = a + 0x100 * b + 0x10000 * (g % 0x10) in

@@ -64,8 +64,7 @@ unpacked-front d rest = same_unpacked (packed d ++ rest) (packed d) 0 0 (λ i sm
 
 -- the second half of a row
 abbrev rest_of : Origin → List ℕ
-rest_of origin =
-    origin_code origin ∷ 0 ∷ origin_segment origin % 0x100 ∷ origin_segment origin / 0x100 ∷ 0 ∷ 0 ∷ 0 ∷ 0 ∷ []
+rest_of origin = origin_code origin ∷ 0 ∷ origin_segment origin % 0x100 ∷ origin_segment origin / 0x100 ∷ 0 ∷ 0 ∷ 0 ∷ 0 ∷ []
 
 origin-front : (d : Desc) (origin : Origin) →
     origin_of (slice_index (packed d ++ rest_of origin) 8) (word_of (packed d ++ rest_of origin) 10) ≡ Some origin

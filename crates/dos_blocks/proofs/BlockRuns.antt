@@ -103,11 +103,9 @@ can_resize_block w true n segment place s can e room =
 
 -- what the service that resizes has asked
 pub can_resize_named : (w : World) (n sel segment place : ℕ) → IsSound w → w.width ≢ None → n ≢ 0 →
-    segment_of_selector w.descriptors sel ≡ Some segment →
-    place_of_block true w.arena segment 0 ≡ Some place →
+    segment_of_selector w.descriptors sel ≡ Some segment → place_of_block true w.arena segment 0 ≡ Some place →
     has_room_to_grow w.descriptors
-    (run_of_block (entry_of_place w.arena place) (index_of sel) (entry_of_place w.arena place).paras n) ≡ true →
-    CanResize w segment n
+    (run_of_block (entry_of_place w.arena place) (index_of sel) (entry_of_place w.arena place).paras n) ≡ true → CanResize w segment n
 can_resize_named w n sel segment place s width some found at grows =
     let first = first_is_named w sel segment place s found (found_block true w.arena segment place (sym at)) in
     let here : has_room_to_grow w.descriptors
@@ -120,21 +118,18 @@ can_resize_named w n sel segment place s width some found at grows =
 
 -- the same of what a call has read
 pub can_put : (for_dpmi : Bool) (w : World) (place at old n : ℕ) (new put : List DosEntry) (run given : DosRun) →
-    CanPutBlock for_dpmi w place old new run →
-    at ≡ place → n ≡ old → put ≡ new → given ≡ run → CanPutBlock for_dpmi w at n put given
+    CanPutBlock for_dpmi w place old new run → at ≡ place → n ≡ old → put ≡ new → given ≡ run → CanPutBlock for_dpmi w at n put given
 can_put for_dpmi w place at old n new put run given can at_is n_is put_is run_is = rw (at_is, n_is, put_is, run_is) can
 
 -- ---- by the kind of the block
 
 pub put_made : (for_dpmi : Bool) (w : World) (place old : ℕ) (new : List DosEntry) (run : DosRun) →
-    CanPutBlock for_dpmi w place old new run →
-    for_dpmi ≡ true → CanPutRun w place old new run
+    CanPutBlock for_dpmi w place old new run → for_dpmi ≡ true → CanPutRun w place old new run
 put_made true w place old new run can e = can
 put_made false w place old new run can e = absurd cc
 
 pub put_plain : (for_dpmi : Bool) (w : World) (place old : ℕ) (new : List DosEntry) (run : DosRun) →
-    CanPutBlock for_dpmi w place old new run →
-    for_dpmi ≡ false → CanPut w.arena place old new
+    CanPutBlock for_dpmi w place old new run → for_dpmi ≡ false → CanPut w.arena place old new
 put_plain true w place old new run can e = absurd cc
 put_plain false w place old new run can e = can
 

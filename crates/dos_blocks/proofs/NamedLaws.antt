@@ -112,8 +112,7 @@ local_selector index = eq-eqb (selector_of index / 4 % 2) 1 (omega arith)
 
 named_by : (w : World) (place first : ℕ) → place < length w.arena → is_dpmi (entry_of_place w.arena place).state ≡ true →
     IsRunOf w.descriptors (Dos (block_segment (entry_of_place w.arena place))) first
-    (descriptors_for (entry_of_place w.arena place).paras) →
-    NamesBlock w (selector_of first) place
+    (descriptors_for (entry_of_place w.arena place).paras) → NamesBlock w (selector_of first) place
 named_by w place first small made run = grind (arith, index_back, local_selector)
 
 pub each_named : (w : World) (place : ℕ) → IsSound w → place < length w.arena → is_dpmi (entry_of_place w.arena place).state ≡ true →
@@ -173,10 +172,8 @@ low_back : (x v : ℕ) → v < 0x10000 → low_half (with_low_half x v) ≡ v
 low_back x v small = omega arith
 
 put_named : (w v : World) (place first n : ℕ) (x : DosEntry) → place < length v.arena → entry_of_place v.arena place ≡ x →
-    is_dpmi x.state ≡ true →
-    IsRunOf v.descriptors (Dos (block_segment x)) first (descriptors_for x.paras) → dx v ≡ selector_of first → ax v ≡ block_segment x →
-    x.paras ≡ n →
-    HasNewBlock v n
+    is_dpmi x.state ≡ true → IsRunOf v.descriptors (Dos (block_segment x)) first (descriptors_for x.paras) → dx v ≡ selector_of first →
+    ax v ≡ block_segment x → x.paras ≡ n → HasNewBlock v n
 put_named w v place first n x within is made run in_dx in_ax size = grind (arith, named_by)
 
 new_count : (n : ℕ) → max (descriptors_for 0) (descriptors_for n) ≡ descriptors_for n
@@ -248,11 +245,9 @@ freed_rows : (w : World) (place : ℕ) → IsSound w → NamesBlock w (dx w) pla
 unfolding free_dos_block with_entries
 freed_rows w place s named = grind (arith, freed_count, freed_is, named_found)
 
-loses : (w v : World) (place : ℕ) → IsSound w → NamesBlock w (dx w) place →
-    v.descriptors
+loses : (w v : World) (place : ℕ) → IsSound w → NamesBlock w (dx w) place → v.descriptors
     ≡ with_dos_rows w.descriptors (run_of_block (entry_of_place w.arena place) (index_of (dx w)) (entry_of_place w.arena place).paras 0)
-    (descriptors_for (entry_of_place w.arena place).paras) →
-    LosesDescriptors w v (block_segment (entry_of_place w.arena place))
+    (descriptors_for (entry_of_place w.arena place).paras) → LosesDescriptors w v (block_segment (entry_of_place w.arena place))
 loses w v place s named is =
     let rows = w.descriptors in
     let entry = entry_of_place w.arena place in

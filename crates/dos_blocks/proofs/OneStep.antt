@@ -30,8 +30,7 @@ given_at n (Some place) (Some first) w = record {
 }
 
 pub given_is : (w : World) (n : ℕ) (fit first : Option ℕ) → first_fit w.arena n 0 ≡ fit →
-    first_free_run w.descriptors (descriptors_for n) ≡ first →
-    allocation_result_from n first w ≡ given_at n fit first w
+    first_free_run w.descriptors (descriptors_for n) ≡ first → allocation_result_from n first w ≡ given_at n fit first w
 unfolding allocation_result
 given_is w n None None e f = refl
 given_is w n (Some place) None e f = refl
@@ -110,8 +109,7 @@ resized_by : (w : World) (n sel : ℕ) (o : Option ℕ) → IsSound w → segmen
 resized_by w n sel None s found = refl
 resized_by w n sel (Some segment) s found = resized_in w n sel segment (place_of_block true w.arena segment 0) s found refl
 
-pub resized_is : (w : World) (n sel : ℕ) → IsSound w →
-    resize_result_of_segment n (index_of sel) (segment_of_selector w.descriptors sel) w
+pub resized_is : (w : World) (n sel : ℕ) → IsSound w → resize_result_of_segment n (index_of sel) (segment_of_selector w.descriptors sel) w
     ≡ resized_with_run n (index_of sel) (place_of_selector w sel) w
 unfolding place_of_selector
 resized_is w n sel s = resized_by w n sel (segment_of_selector w.descriptors sel) s refl
@@ -156,8 +154,7 @@ left_done w u refusal e = absurd cc
 
 left_resized_at : (w : World) (segment n : ℕ) (o : Option ℕ) → Leaves w (resize_result_at w true segment n o)
 left_resized_at w segment n None = λ refusal e. refl
-left_resized_at w segment n (Some place) =
-    by_choice w (nat_le n (greatest_size w.arena place)) _ _ (left_done w _) (λ refusal e. refl)
+left_resized_at w segment n (Some place) = by_choice w (nat_le n (greatest_size w.arena place)) _ _ (left_done w _) (λ refusal e. refl)
 
 left_resized : (w : World) (n first segment : ℕ) (o : Option ℕ) → Leaves w (resize_result_of_place n first segment o w)
 unfolding resize_result

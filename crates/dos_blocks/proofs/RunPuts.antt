@@ -80,8 +80,7 @@ splice_resize es for_dpmi n place arena small room =
     }
 
 pub can_resize : (es : List DosEntry) (for_dpmi : Bool) (n segment place : ℕ) → for_dpmi ≡ false → IsArena es →
-    HasBlock for_dpmi es segment place →
-    n ≤ greatest_size es place →
+    HasBlock for_dpmi es segment place → n ≤ greatest_size es place →
     CanPut es place (1 + free_entries_after es place) (split (block_state for_dpmi) (entry_of_place es place).at n (greatest_size es place))
 can_resize es for_dpmi n segment place dos arena block room =
     let can = splice_resize es for_dpmi n place arena block.small room in
@@ -168,8 +167,7 @@ made_one entry made some = rw (made, ne_eqb entry.paras 0 (λ e. omega arith)) r
 -- ---- 0100h
 
 pub can_give_run : (w : World) (n place first : ℕ) → IsSound w → w.width ≢ None → n ≢ 0 → HasFit w.arena n place →
-    FIRST_FREE_DESCRIPTOR ≤ first →
-    IsFreeRunOf w.descriptors first (descriptors_for n) →
+    FIRST_FREE_DESCRIPTOR ≤ first → IsFreeRunOf w.descriptors first (descriptors_for n) →
     CanPutRun w place 1 (split Dpmi (entry_of_place w.arena place).at n (entry_of_place w.arena place).paras)
     (run_of_block (entry_of_place w.arena place) first 0 n)
 can_give_run w n place first s width some fit from run =
@@ -187,15 +185,13 @@ run_within w first place s block = grind (arith, has_within)
 
 pub can_free_run : (w : World) (first place : ℕ) → IsSound w → w.width ≢ None → HasBlockRun w first place →
     CanPutRun w (place - free_before w.arena place) (free_before w.arena place + (1 + free_entries_after w.arena place))
-    (joined_entry w.arena place ∷ [])
-    (run_of_block (entry_of_place w.arena place) first (entry_of_place w.arena place).paras 0)
+    (joined_entry w.arena place ∷ []) (run_of_block (entry_of_place w.arena place) first (entry_of_place w.arena place).paras 0)
 can_free_run w first place s width block = grind (arith, behind_made, is_before, made_one, run_within, splice_free)
 
 -- ---- 0102h
 
 pub can_resize_run : (w : World) (n first place : ℕ) → IsSound w → w.width ≢ None → HasBlockRun w first place → n ≢ 0 →
-    n ≤ greatest_size w.arena place →
-    IsFreeRunOf w.descriptors (first + descriptors_for (entry_of_place w.arena place).paras)
+    n ≤ greatest_size w.arena place → IsFreeRunOf w.descriptors (first + descriptors_for (entry_of_place w.arena place).paras)
     (descriptors_for n - descriptors_for (entry_of_place w.arena place).paras) →
     CanPutRun w place (1 + free_entries_after w.arena place) (split Dpmi (entry_of_place w.arena place).at n (greatest_size w.arena place))
     (run_of_block (entry_of_place w.arena place) first (entry_of_place w.arena place).paras n)

@@ -25,14 +25,12 @@ rest_is es place entry small is = dropped es place entry small ∙ ap (λ (e : D
 -- an entry that fits
 
 pub fit_here : (es : List DosEntry) (n place : ℕ) (entry : DosEntry) → place < length es → entry ≡ get_or es place entry →
-    fits entry n ≡ true →
-    first_fit (drop place es) n place ≡ Some place
+    fits entry n ≡ true → first_fit (drop place es) n place ≡ Some place
 unfolding first_fit
 fit_here es n place entry small is test = ap (λ (xs : List DosEntry). first_fit xs n place) (rest_is es place entry small is) ∙ rw test refl
 
 pub fit_next : (es : List DosEntry) (n place : ℕ) (entry : DosEntry) → place < length es → entry ≡ get_or es place entry →
-    fits entry n ≡ false →
-    first_fit (drop place es) n place ≡ first_fit (drop (place + 1) es) n (place + 1)
+    fits entry n ≡ false → first_fit (drop place es) n place ≡ first_fit (drop (place + 1) es) n (place + 1)
 unfolding first_fit
 fit_next es n place entry small is test = ap (λ (xs : List DosEntry). first_fit xs n place) (rest_is es place entry small is) ∙ rw test refl
 
@@ -50,8 +48,7 @@ block_here for_dpmi es segment place entry small is test =
     ap (λ (xs : List DosEntry). place_of_block for_dpmi xs segment place) (rest_is es place entry small is) ∙ rw test refl
 
 pub block_next : (for_dpmi : Bool) (es : List DosEntry) (segment place : ℕ) (entry : DosEntry) → place < length es →
-    entry ≡ get_or es place entry →
-    starts_at for_dpmi entry segment ≡ false →
+    entry ≡ get_or es place entry → starts_at for_dpmi entry segment ≡ false →
     place_of_block for_dpmi (drop place es) segment place ≡ place_of_block for_dpmi (drop (place + 1) es) segment (place + 1)
 unfolding place_of_block
 block_next for_dpmi es segment place entry small is test =

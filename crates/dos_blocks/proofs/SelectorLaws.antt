@@ -64,8 +64,7 @@ pub record HasBlockRun (w : World) (first place : ℕ) : Type 0 where
   pub some : 0 < (entry_of_place w.arena place).paras
 
 pub block_of_segment : (w : World) (sel place segment : ℕ) → IsSound w → segment_of_selector w.descriptors sel ≡ Some segment →
-    HasBlock true w.arena segment place →
-    HasBlockRun w (index_of sel) place
+    HasBlock true w.arena segment place → HasBlockRun w (index_of sel) place
 block_of_segment w sel place segment s found block =
     let entry = entry_of_place w.arena place in
     let h : HasRun w.descriptors entry = s.runs.runs place entry (slice_get-get_or w.arena place missing_entry block.small) block.kind in
@@ -76,8 +75,7 @@ block_of_segment w sel place segment s found block =
     grind arith
 
 selector_block_of : (w : World) (sel place : ℕ) (o : Option ℕ) → IsSound w → segment_of_selector w.descriptors sel ≡ o →
-    place_of_segment w.arena o ≡ Some place →
-    HasBlockRun w (index_of sel) place
+    place_of_segment w.arena o ≡ Some place → HasBlockRun w (index_of sel) place
 selector_block_of w sel place None s found e = absurd (none-some place e)
 selector_block_of w sel place (Some segment) s found e =
     block_of_segment w sel place segment s found (found_block true w.arena segment place (sym e))
@@ -128,6 +126,5 @@ free_end rows first i n past before =
     sym before ∙ ap (are_free rows (first + i)) (let none : n - i ≡ 0 = omega arith in none) ∙ are_free_none rows (first + i)
 
 pub whole_run : (rows : List Row) (first i n : ℕ) → n ≤ i → first + n ≤ DESCRIPTORS →
-    are_free rows (first + i) (n - i) ≡ are_free rows first n →
-    true ≡ is_free_run rows first n
+    are_free rows (first + i) (n - i) ≡ are_free rows first n → true ≡ is_free_run rows first n
 whole_run rows first i n past within before = rw (le-leb (first + n) DESCRIPTORS within, free_end rows first i n past before) refl

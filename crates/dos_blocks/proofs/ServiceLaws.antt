@@ -29,8 +29,7 @@ sound_put w place old new s can = IsSound-entries w place old new s can.old_plai
 
 sound_given : (w : World) (n : ℕ) (o : Option ℕ) → first_fit w.arena n 0 ≡ o → IsSound w → IsSound (allocation_result_at w false n o).world
 sound_given w n None e s = s
-sound_given w n (Some place) e s =
-    sound_put w place 1 _ s (can_give w.arena false n place refl s.arena (found_fit w.arena n place (sym e)))
+sound_given w n (Some place) e s = sound_put w place 1 _ s (can_give w.arena false n place refl s.arena (found_fit w.arena n place (sym e)))
 
 pub sound_allocated : (w : World) (n : ℕ) → IsSound w → IsSound (allocation_result w false n).world
 unfolding allocation_result
@@ -85,15 +84,13 @@ of_choice P true one other chosen left = chosen refl
 of_choice P false one other chosen left = left refl
 
 of_reported : (P : World → Type 0) (answer : Result (Unit {0}) DosRefusal) (w : World) → P w →
-    ((refusal : DosRefusal) → P (with_refusal refusal w)) →
-    P (served_result (record { answer = answer; world = w })).world
+    ((refusal : DosRefusal) → P (with_refusal refusal w)) → P (served_result (record { answer = answer; world = w })).world
 unfolding served_result
 of_reported P (Ok v) w here refused = here
 of_reported P (Err refusal) w here refused = refused refusal
 
 of_each_service : (P : World → Type 0) (ax : ℕ) (w : World) → P w → P (served_result (allocate_dos_block w)).world →
-    P (served_result (free_dos_block w)).world →
-    P (served_result (resize_dos_block w)).world → P (dos_service ax w).world
+    P (served_result (free_dos_block w)).world → P (served_result (resize_dos_block w)).world → P (dos_service ax w).world
 unfolding dos_service
 of_each_service P ax w same given freed resized = grind (arith, of_choice)
 
@@ -110,8 +107,7 @@ sound_reported : (done : Done (Unit {0})) → IsSound done.world → IsSound (se
 sound_reported done s = of_reported IsSound done.answer done.world s (λ refusal. sound_refusal done.world refusal s)
 
 sound_put_run : (w : World) (place at old first before after : ℕ) (new : List DosEntry) → IsSound w → place < length w.arena →
-    after < 0x10000 →
-    CanPutRun w at old new (run_of_block (entry_of_place w.arena place) first before after) →
+    after < 0x10000 → CanPutRun w at old new (run_of_block (entry_of_place w.arena place) first before after) →
     IsSound (with_entries_and_run w at old new (run_of_block (entry_of_place w.arena place) first before after))
 sound_put_run w place at old first before after new s small fits can =
     let within = entry_within w.arena place s.arena small in
@@ -119,8 +115,7 @@ sound_put_run w place at old first before after new s small fits can =
     IsSound-run w at old new (run_of_block (entry_of_place w.arena place) first before after) (omega arith) fits s can
 
 sound_given_run : (w : World) (n : ℕ) (fit first : Option ℕ) → IsSound w → w.width ≢ None → n ≢ 0 → n < 0x10000 →
-    first_fit w.arena n 0 ≡ fit →
-    first_free_run w.descriptors (descriptors_for n) ≡ first → IsSound (given_at n fit first w).world
+    first_fit w.arena n 0 ≡ fit → first_free_run w.descriptors (descriptors_for n) ≡ first → IsSound (given_at n fit first w).world
 unfolding with_entries
 sound_given_run w n None first s width some small e f = s
 sound_given_run w n (Some place) None s width some small e f = s

@@ -70,8 +70,7 @@ joined-append (e ∷ f ∷ xs) ys x y seam = (x.0, joined-append (f ∷ xs) ys x
 
 -- after a free entry there is none
 pub joined_next : (es : List DosEntry) (place : ℕ) (d : DosEntry) → IsJoined es → place + 1 < length es →
-    is_free (get_or es place d).state ≡ true →
-    is_free (get_or es (place + 1) d).state ≡ false
+    is_free (get_or es place d).state ≡ true → is_free (get_or es (place + 1) d).state ≡ false
 joined_next [] place d j small free = absurd (omega arith)
 joined_next (e ∷ []) zero d j small free = absurd (omega arith)
 joined_next (e ∷ x ∷ es) zero d j small free = j.0 free
@@ -95,8 +94,7 @@ starts-spliced [] place old new within = absurd (omega arith)
 starts-spliced (e ∷ es) place old new within = refl
 
 joined-spliced : (es : List DosEntry) (place old : ℕ) (new : List DosEntry) (d : DosEntry) → IsJoined es → place + old ≤ length es →
-    IsJoined new →
-    FitsBetween es place old new d → IsJoined (with_replaced_entries es place old new)
+    IsJoined new → FitsBetween es place old new d → IsJoined (with_replaced_entries es place old new)
 joined-spliced es zero old new d j within joined seams =
     let right : old < length es → is_free (get_or es old d).state ≡ false =
     λ small. ap (λ (n : ℕ). is_free (get_or es n d).state) (sym (zero-add old)) ∙ seams.right (omega arith) in
@@ -189,8 +187,7 @@ pub record FillsBehind (es : List DosEntry) (place from to : ℕ) : Type 0 where
   pub ends : from + 1 + greatest_size es place ≡ to
 
 pub behind_fills : (es : List DosEntry) (place from to : ℕ) → place < length es →
-    Fills from (take (1 + free_entries_after es place) (drop place es)) to →
-    FillsBehind es place from to
+    Fills from (take (1 + free_entries_after es place) (drop place es)) to → FillsBehind es place from to
 behind_fills es place from to small f = grind (arith, free_inside, take_one, take_two)
 
 -- none of these was made by INT 31h function 0100h
@@ -234,8 +231,7 @@ pub record IsBefore (es : List DosEntry) (place before room : ℕ) : Type 0 wher
   pub left : (j : ℕ) → j + 1 ≡ place - before → is_free (entry_of_place es j).state ≡ false
 
 one_before : (es : List DosEntry) (place : ℕ) → IsArena es → place < length es → 1 ≤ place →
-    is_free (entry_of_place es (place - 1)).state ≡ true →
-    IsBefore es place 1 (1 + (entry_of_place es (place - 1)).paras)
+    is_free (entry_of_place es (place - 1)).state ≡ true → IsBefore es place 1 (1 + (entry_of_place es (place - 1)).paras)
 one_before es place arena small some free = grind (arith, cases_Bool, dropped, false≢true, fills_next, free_plain, joined_next)
 
 only_right : (a b : Bool) → a ≡ true → (a && b) ≡ false → b ≡ false

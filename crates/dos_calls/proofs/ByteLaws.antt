@@ -77,8 +77,7 @@ bytes_line (key ∷ keys) bytes =
 
 -- ---- bytes written
 
-pub put_next : (dos : List ℕ) (segment at : ℕ) (bytes : List ℕ) (n : ℕ) → n < length bytes →
-    with_dos_bytes_at dos segment at (drop n bytes)
+pub put_next : (dos : List ℕ) (segment at : ℕ) (bytes : List ℕ) (n : ℕ) → n < length bytes → with_dos_bytes_at dos segment at (drop n bytes)
     ≡ with_dos_bytes_at (with_dos_byte dos (real_address segment at) (get_or bytes n 0)) segment (at + 1) (drop (n + 1) bytes)
 unfolding with_dos_bytes_at
 put_next dos segment at bytes n small = ap (λ (xs : List ℕ). with_dos_bytes_at dos segment at xs) (rest_is bytes n small)

@@ -254,8 +254,7 @@ pub multiplex_leaves : (w : World) → rest_of (multiplex_call w) ≡ rest_of w
 unfolding multiplex_call
 multiplex_leaves w = rest_if w (nat_eq (low_half w.regs.eax) 0x1687) _ refl
 
-regs_if : (w : World) (c : Bool) (regs : Regs) →
-    let u : World = if c then record w { regs = regs } else w in u ≡ record w { regs = u.regs }
+regs_if : (w : World) (c : Bool) (regs : Regs) → let u : World = if c then record w { regs = regs } else w in u ≡ record w { regs = u.regs }
 regs_if w true regs = refl
 regs_if w false regs = refl
 

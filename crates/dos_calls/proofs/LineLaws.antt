@@ -29,8 +29,7 @@ other key keys test = rw test (cases (line_of keys))
 
 -- a return
 pub line_here : (keys : List ℕ) (n : ℕ) → n < length keys → get_or keys n 0 ≡ 0x0D →
-    line_of keys ≡ behind (take n keys) (line_of (drop n keys)) →
-    line_of keys ≡ Some (take n keys, drop (n + 1) keys)
+    line_of keys ≡ behind (take n keys) (line_of (drop n keys)) → line_of keys ≡ Some (take n keys, drop (n + 1) keys)
 unfolding line_of
 line_here keys n small return line =
     line ∙ ap (λ (xs : List ℕ). behind (take n keys) (line_of xs)) (rest_is keys n small ∙ ap (λ (x : ℕ). x ∷ drop (n + 1) keys) return)
@@ -41,8 +40,7 @@ other_key key ne = grind (arith, nat_tests)
 
 -- another key
 pub line_next : (keys : List ℕ) (n : ℕ) → n < length keys → get_or keys n 0 ≢ 0x0D →
-    line_of keys ≡ behind (take n keys) (line_of (drop n keys)) →
-    line_of keys ≡ behind (take (n + 1) keys) (line_of (drop (n + 1) keys))
+    line_of keys ≡ behind (take n keys) (line_of (drop n keys)) → line_of keys ≡ behind (take (n + 1) keys) (line_of (drop (n + 1) keys))
 line_next keys n small ne line =
     line ∙ ap (λ (xs : List ℕ). behind (take n keys) (line_of xs)) (rest_is keys n small)
     ∙ ap (λ (o : Option (List ℕ × List ℕ)). behind (take n keys) o)

@@ -11,8 +11,7 @@ use Rattle.dpmi_cli.specs.{Causes.{HasVerdict, Answers}, Load.{verdict_in}, Runs
 use Rattle.dpmi_cli.proofs.{Files.{no_verdict}, RunAnswers.{pair_status-small, run_status-small}}
 
 -- where the output didn't fail, the answer is whole
-pub gives_whole : (v : Verdict) (before now : Shown) (m n result : ℕ) → Answers v before now m n result →
-    (Rose m n → ⊥) →
+pub gives_whole : (v : Verdict) (before now : Shown) (m n result : ℕ) → Answers v before now m n result → (Rose m n → ⊥) →
     (result ≡ (answer_to v).status) × Gains before now (answer_to v).text
 gives_whole (Refuses reason) before now m n result gave calm = elim gave.status_of_the_answer [
   | inl is ↦ (is, elim (gave.whole_line is) [ inl whole ↦ whole | inr rose ↦ absurd (calm rose) ])
@@ -37,14 +36,12 @@ gives_whole (StartsMade number w) before now m n result gave calm = elim gave.st
   | inr failed ↦ absurd (calm (gave.output_failure_has_cause failed.0))
 ]
 
-some_map : (found : Option Verdict) (v : Verdict) (P : Verdict → Type 0) → P v →
-    IsSomeAnd found (λ u. u ≡ v) → IsSomeAnd found P
+some_map : (found : Option Verdict) (v : Verdict) (P : Verdict → Type 0) → P v → IsSomeAnd found (λ u. u ≡ v) → IsSomeAnd found P
 some_map None v P holds has = absurd has
 some_map (Some u) v P holds has = subst P (sym has) holds
 
 -- what holds of the verdict that was prepared holds of the verdict on the words
-verdict_map : (words : List (List ℕ)) (files : Option Files) (v : Verdict) (P : Verdict → Type 0) →
-    P v →
+verdict_map : (words : List (List ℕ)) (files : Option Files) (v : Verdict) (P : Verdict → Type 0) → P v →
     HasVerdict words files (λ u. u ≡ v) → HasVerdict words files P
 verdict_map words None v P holds (first, (second, has)) =
     (first, (second, some_map (verdict_of (meaning words) first second) v P holds has))
@@ -101,8 +98,7 @@ blames_nothing None h = h
 blames_nothing (Some name) h = omega (arith, h.1)
 
 -- words that mean nothing name no file that could fail
-no_file_fails : (words : List (List ℕ)) (files : Option Files) (m n : ℕ) (blamed : Option (List ℕ)) →
-    meaning words ≡ None →
+no_file_fails : (words : List (List ℕ)) (files : Option Files) (m n : ℕ) (blamed : Option (List ℕ)) → meaning words ≡ None →
     NamedFailed words m n blamed ⊎ IsAbsent words files → ⊥
 no_file_fails words files m n blamed none (inl failed) =
     blames_nothing blamed (subst (λ names. IsSomeAnd blamed (λ name. Contains names name)) (no_files words none) failed.1)
@@ -110,8 +106,7 @@ no_file_fails words None m n blamed none (inr absent) = absent
 no_file_fails words (Some fs) m n blamed none (inr absent) =
     let there : answer words fs ≡ Some (answer_to (Refuses Words)) = ap (option_map answer_to) (no_verdict words fs fs none) in cc
 
-some_is : (found : Option Verdict) (v : Verdict) (P : Verdict → Type 0) → found ≡ Some v →
-    IsSomeAnd found P → P v
+some_is : (found : Option Verdict) (v : Verdict) (P : Verdict → Type 0) → found ≡ Some v → IsSomeAnd found P → P v
 some_is found v P is has = let given : IsSomeAnd (Some v) P = subst (λ f. IsSomeAnd f P) is has in given
 
 only_verdict : (words : List (List ℕ)) (files : Option Files) (P : Verdict → Type 0) →
@@ -122,8 +117,7 @@ only_verdict words (Some fs) P none has = some_is (verdict words fs) (Refuses Wo
 
 -- words that mean nothing are refused as such, or memory was short
 pub wrong_words : (words : List (List ℕ)) (files : Option Files) (fm fn : ℕ) (blamed : Option (List ℕ)) (before now : Shown)
-    (m n result : ℕ) →
-    (result ≡ 3 → NamedFailed words fm fn blamed ⊎ IsAbsent words files) →
+    (m n result : ℕ) → (result ≡ 3 → NamedFailed words fm fn blamed ⊎ IsAbsent words files) →
     (result ≢ 3 → result ≢ 5 → HasVerdict words files (λ v. Answers v before now m n result)) → meaning words ≡ None →
     (result ≡ 5) ⊎ Answers (Refuses Words) before now m n result
 wrong_words words files fm fn blamed before now m n result cause gave none = elim (eqb_tells result 5) [

@@ -54,16 +54,14 @@ is_ready pages keys keep file w is sound bytes = record {
 }
 
 -- the open file, read as far as a buffer holds
-by_read : (found left : Option (List ℕ)) (buf : List ℕ) (n m : ℕ) →
-    left ≡ found → IsSome left → length buf ≡ m → IfSome left (λ l. take n buf ≡ take (length buf) l) →
-    IsSomeAnd found (λ file. take n buf ≡ take m file)
+by_read : (found left : Option (List ℕ)) (buf : List ℕ) (n m : ℕ) → left ≡ found → IsSome left → length buf ≡ m →
+    IfSome left (λ l. take n buf ≡ take (length buf) l) → IsSomeAnd found (λ file. take n buf ≡ take m file)
 by_read found None buf n m is there size read = let never = there in cc
 by_read found (Some l) buf n m is there size read =
     subst (λ f. IsSomeAnd f (λ file. take n buf ≡ take m file)) is (read ∙ ap (λ k. take k l) size)
 
-pub front_of_read : (files : Option Files) (name : List ℕ) (left : Option (List ℕ)) (buf : List ℕ) (n m : ℕ) →
-    Opens files name left → n ≤ length buf → length buf ≡ m → IfSome left (λ l. take n buf ≡ take (length buf) l) →
-    HasFront m files name (take n buf)
+pub front_of_read : (files : Option Files) (name : List ℕ) (left : Option (List ℕ)) (buf : List ℕ) (n m : ℕ) → Opens files name left →
+    n ≤ length buf → length buf ≡ m → IfSome left (λ l. take n buf ≡ take (length buf) l) → HasFront m files name (take n buf)
 front_of_read None name left buf n m opens few size read =
     (λ _. Some (take n buf), sym (take_all m (take n buf) (omega (arith, length-take-le n buf few, size))))
 front_of_read (Some files) name left buf n m opens few size read = by_read (files name) left buf n m opens.0 opens.1 size read

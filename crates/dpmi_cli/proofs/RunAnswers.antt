@@ -92,17 +92,15 @@ cut v before now m n laws small part rose = record {
 
 -- the run of a client up to a bound ended so, and its text was written
 pub gives_run : (w after : HostWorld) (timer : Option ℕ) (bound : ℕ) (e : Exit) (before now : Shown) (m n result : ℕ) →
-    RunKeepsTheLaws w timer →
-    after ≡ host_at_end w timer bound → after.exit ≡ Some e → Gains before now (text after) → result ≡ exit_status e →
-    Answers (Starts w timer bound) before now m n result
+    RunKeepsTheLaws w timer → after ≡ host_at_end w timer bound → after.exit ≡ Some e → Gains before now (text after) →
+    result ≡ exit_status e → Answers (Starts w timer bound) before now m n result
 gives_run w after timer bound e before now m n result laws is exited written status =
     whole (Starts w timer bound) before now m n result laws (run_status-small (host_at_end w timer bound))
     (status ∙ sym (status_is after e exited) ∙ ap run_status is)
     (subst (λ (v : HostWorld). Gains before now (text v)) is written)
 
 pub gives_cut : (w after : HostWorld) (timer : Option ℕ) (bound : ℕ) (before now : Shown) (m n : ℕ) → RunKeepsTheLaws w timer →
-    after ≡ host_at_end w timer bound →
-    GainsPart before now (text after) → Rose m n → Answers (Starts w timer bound) before now m n 4
+    after ≡ host_at_end w timer bound → GainsPart before now (text after) → Rose m n → Answers (Starts w timer bound) before now m n 4
 gives_cut w after timer bound before now m n laws is part rose =
     cut (Starts w timer bound) before now m n laws (run_status-small (host_at_end w timer bound))
     (subst (λ (v : HostWorld). GainsPart before now (text v)) is part) rose
@@ -130,8 +128,7 @@ EachDepth = (source : ℕ → InterruptSource) (w : ℕ → HostWorld) (n k : �
     (host_depth (w (k + 1)) ≤ host_depth (w k) + 1) × (host_depth (w k) ≤ host_depth (w (k + 1)) + 1)
 
 abbrev EachPartner : Type 0
-EachPartner = (source : ℕ → InterruptSource) (w : ℕ → HostWorld) (n i j : ℕ) → HasTurns source w n → j < n → LastPush w i j →
-    Matched w i j
+EachPartner = (source : ℕ → InterruptSource) (w : ℕ → HostWorld) (n i j : ℕ) → HasTurns source w n → j < n → LastPush w i j → Matched w i j
 
 abbrev EachStays : Type 0
 EachStays = (source : ℕ → InterruptSource) (w : ℕ → HostWorld) (n i j : ℕ) → HasTurns source w n → j < n → Matched w i j →
@@ -210,8 +207,7 @@ next_turn first now after n so_far is = is ∙ ap turn_with_watchpoints so_far �
 
 -- the turns up to an exit are all
 pub all_turns : (first after : WatchWorld) (n bound : ℕ) → after ≡ turns_of turn_with_watchpoints n first → n ≤ bound →
-    IsSome after.host.exit →
-    after ≡ turns_of turn_with_watchpoints bound first
+    IsSome after.host.exit → after ≡ turns_of turn_with_watchpoints bound first
 all_turns first after n bound is le ended = is ∙ sym (over (client_of stays counts extends) first after n bound is le ended)
 
 -- a host whose run ends at once is closed
@@ -225,10 +221,8 @@ first w s ready = record { no_exit = ready.no_exit; no_steps = ready.no_turn; no
 
 -- the runs of two clients in turns ended so, and their text was written
 pub gives_pair : (slice bound : ℕ) (a b end_a end_b : HostWorld) (before now : Shown) (m n result : ℕ) → RunKeepsTheLaws a None →
-    RunKeepsTheLaws b None →
-    end_a ≡ watched_run a bound → end_b ≡ watched_run b bound → Gains before now (pair_text slice bound a b) →
-    result ≡ max (run_status end_a) (run_status end_b) →
-    Answers (StartsPair slice bound a b) before now m n result
+    RunKeepsTheLaws b None → end_a ≡ watched_run a bound → end_b ≡ watched_run b bound → Gains before now (pair_text slice bound a b) →
+    result ≡ max (run_status end_a) (run_status end_b) → Answers (StartsPair slice bound a b) before now m n result
 gives_pair slice bound a b end_a end_b before now m n result laws_a laws_b is_a is_b written status =
     whole (StartsPair slice bound a b) before now m n result (laws_a, laws_b)
     (pair_status-small (watched_run a bound) (watched_run b bound))

@@ -40,8 +40,7 @@ part_then a b c xs ys g (n, le, h) = (
 
 -- a part of the first is a part of the whole
 pub part_longer : (a b : Shown) (xs ys : List ℕ) → GainsPart a b xs → GainsPart a b (xs ++ ys)
-part_longer a b xs ys (n, le, h) =
-    (n, omega (arith, length-append {A = ℕ}), subst (λ l. Gains a b l) (sym (take-append-le n xs ys le)) h)
+part_longer a b xs ys (n, le, h) = (n, omega (arith, length-append {A = ℕ}), subst (λ l. Gains a b l) (sym (take-append-le n xs ys le)) h)
 
 rest_whole : (xs : List ℕ) (d : ℕ) → take (length xs - d) (drop d xs) ≡ drop d xs
 rest_whole xs d = grind (arith, common_steps)
@@ -98,17 +97,14 @@ puts_then {faults = faults} {c = c} {xs = xs} {ys = ys} (Err e) first next = rec
 }
 
 -- the first of two texts failed
-pub puts_cut : {O A B E F : Type 0} {e : E} {taken : O → Shown} {faults : O → ℕ} {a b : O} {xs : List ℕ} (ys : List ℕ)
-    (r : Result B F) → IsErr r →
-    Puts {O = O} {A = A} {E = E} (Err e) taken faults a b xs → Puts r taken faults a b (xs ++ ys)
+pub puts_cut : {O A B E F : Type 0} {e : E} {taken : O → Shown} {faults : O → ℕ} {a b : O} {xs : List ℕ} (ys : List ℕ) (r : Result B F) →
+    IsErr r → Puts {O = O} {A = A} {E = E} (Err e) taken faults a b xs → Puts r taken faults a b (xs ++ ys)
 puts_cut {xs = xs} ys r is first = puts_failed r is (part_longer _ _ xs ys first.part) first.failed
 
 -- the first of three texts failed
 pub puts_cut_early : {O A B E F : Type 0} {e : E} {taken : O → Shown} {faults : O → ℕ} {a b : O} {xs : List ℕ} (ys zs : List ℕ)
-    (r : Result B F) → IsErr r →
-    Puts {O = O} {A = A} {E = E} (Err e) taken faults a b xs → Puts r taken faults a b ((xs ++ ys) ++ zs)
-puts_cut_early {xs = xs} ys zs r is first =
-    puts_failed r is (part_longer _ _ (xs ++ ys) zs (part_longer _ _ xs ys first.part)) first.failed
+    (r : Result B F) → IsErr r → Puts {O = O} {A = A} {E = E} (Err e) taken faults a b xs → Puts r taken faults a b ((xs ++ ys) ++ zs)
+puts_cut_early {xs = xs} ys zs r is first = puts_failed r is (part_longer _ _ (xs ++ ys) zs (part_longer _ _ xs ys first.part)) first.failed
 
 consumes_then : (a b c : Option (List ℕ)) (xs ys : List ℕ) → Consumes a b xs → Gives b c ys → Consumes a c (xs ++ ys)
 consumes_then None b c xs ys g h = tt
@@ -133,6 +129,4 @@ consumes_piece a b c buf part d n le lt g h =
 -- the bytes that a read puts into a buffer, and those that are then left
 pub given_rest : (bytes buf copied : List ℕ) (at n : ℕ) → n ≤ length (drop at bytes) → copied ≡ take n (drop at bytes) →
     drop at bytes ≡ take n (copied ++ drop n buf) ++ drop (at + n) bytes
-given_rest bytes buf copied at n le was =
-    let parts = take-append-drop n (drop at bytes) in
-    grind (arith, common_steps)
+given_rest bytes buf copied at n le was = let parts = take-append-drop n (drop at bytes) in grind (arith, common_steps)

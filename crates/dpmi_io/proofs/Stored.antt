@@ -22,8 +22,7 @@ found q [] = refl
 found q (e ∷ es) = found_step (is_eq (slice_cmp nat_cmp q (string_bytes e.0))) e.1 _ _ (found q es)
 
 -- a name has the bytes that the stored map has for it
-pub get-files_of : {Y Z : Type 0} (m : BTreeMap (String Y) (Vec ℕ Z)) (q : List ℕ) →
-    get (files_of m.entries) q ≡ bytes_of (get_by_text m q)
+pub get-files_of : {Y Z : Type 0} (m : BTreeMap (String Y) (Vec ℕ Z)) (q : List ℕ) → get (files_of m.entries) q ≡ bytes_of (get_by_text m q)
 get-files_of m q = get-from_entries nat_list_cmp_total (map file_entry m.entries) q ∙ found q m.entries
 
 update_step : {Z : Type 0} (a b : Bool) (v : Vec ℕ Z) (x : Option (Vec ℕ Z)) (y : Option (List ℕ)) → a ≡ b → y ≡ bytes_of x →

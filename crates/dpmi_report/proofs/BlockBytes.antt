@@ -23,8 +23,7 @@ pub record Seen (blocks : List (Option MemoryBlock)) (handle at n : ℕ) : Type 
   pub is : IsBlock block
 
 seen_by : (blocks : List (Option MemoryBlock)) (budget handle base pages : ℕ) → SoundBlocks blocks budget → (b : Option MemoryBlock) →
-    block_at blocks handle ≡ b →
-    row_seen b ≡ Some (record { base = base; pages = pages }) → Seen blocks handle base pages
+    block_at blocks handle ≡ b → row_seen b ≡ Some (record { base = base; pages = pages }) → Seen blocks handle base pages
 seen_by blocks budget handle base pages sound None e s = absurd cc
 seen_by blocks budget handle base pages sound (Some block) e s = record {
   block = block;

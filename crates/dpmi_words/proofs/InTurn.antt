@@ -24,15 +24,12 @@ word_taken names f xs i x whole o r lt is taken so_far =
 
 -- all the words
 pub words_done : {X : Type 0} (names : List Text) (f : X → Text) (xs : List X) (i : ℕ) (whole : Option Reading) (r : Reading) →
-    length xs ≤ i →
-    whole ≡ reads names (map f (drop i xs)) r → whole ≡ Some r
-words_done names f xs i whole r le so_far =
-    so_far ∙ ap (λ l. reads names (map f l) r) (drop_all i xs le) ∙ reads_none names r
+    length xs ≤ i → whole ≡ reads names (map f (drop i xs)) r → whole ≡ Some r
+words_done names f xs i whole r le so_far = so_far ∙ ap (λ l. reads names (map f l) r) (drop_all i xs le) ∙ reads_none names r
 
 -- one more step of a fold over a list
 pub step_folded : {A X : Type 0} (add : A → Text → A) (f : X → Text) (xs : List X) (i : ℕ) (d : X) (whole before after : A) →
-    i < length xs →
-    after ≡ add before (f (slice_index_or xs i d)) → whole ≡ fold add before (map f (drop i xs)) →
+    i < length xs → after ≡ add before (f (slice_index_or xs i d)) → whole ≡ fold add before (map f (drop i xs)) →
     whole ≡ fold add after (map f (drop (i + 1) xs))
 step_folded add f xs i d whole before after lt added so_far =
     let here : drop i xs ≡ slice_index_or xs i d ∷ drop (i + 1) xs = rw add-one (drop-cons xs i d lt) in

@@ -80,8 +80,7 @@ unfolding walked
 attached c h k word n v e rule = rw (dashes word (n, Some v) e, e, rule) refl
 
 separate : (c : List Rule) (h : Held) (k : ℕ) (word n : Text) → long_of word ≡ Some (n, None) → arg_by_long c n ≡ Some (built_option n) →
-    walked c [] (record { held = h; waiting = idle; position = k; is_trailing = false; stopped = None }) word
-    ≡ record
+    walked c [] (record { held = h; waiting = idle; position = k; is_trailing = false; stopped = None }) word ≡ record
     { held = record (settled c h) { pending = Some (n, []) }; waiting = option n; position = k; is_trailing = false; stopped = None }
 unfolding walked
 separate c h k word n e rule = rw (dashes word (n, None) e, e, rule) refl
@@ -105,8 +104,7 @@ idle_used c given n v new = record { rows = refl; skip = refl; passes = refl }
 
 -- while a value is pending
 pub idle_pending : (c : List Rule) (given : List (Text × Text)) (n v : Text) → arg_by_id c n ≡ Some (built_option n) →
-    has_given n given ≡ false →
-    Idle c (given ++ (n, v) ∷ []) (record { rows = map row given; pending = Some (n, v ∷ []); skip = 0 })
+    has_given n given ≡ false → Idle c (given ++ (n, v) ∷ []) (record { rows = map row given; pending = Some (n, v ∷ []); skip = 0 })
 idle_pending c given n v rule new = record {
   rows = rw rule (used_new n v given new);
   skip = refl;
@@ -114,8 +112,7 @@ idle_pending c given n v rule new = record {
 }
 
 pub idle_operand : (c : List Rule) (given : List (Text × Text)) (k : ℕ) (n v : Text) → arg_by_id c n ≡ Some (built_operand k n) →
-    has_given n given ≡ false →
-    Idle c (given ++ (n, v) ∷ []) (record { rows = map row given; pending = Some (n, v ∷ []); skip = 0 })
+    has_given n given ≡ false → Idle c (given ++ (n, v) ∷ []) (record { rows = map row given; pending = Some (n, v ∷ []); skip = 0 })
 idle_operand c given k n v rule new = record {
   rows = rw rule (used_new n v given new);
   skip = refl;
@@ -181,15 +178,13 @@ operand_read c given h k n word e rule is =
 -- ---- each word passes
 
 attached_passes : (s : Shape) (given : List (Text × Text)) (h : Held) (k : ℕ) (word n v : Text) → long_of word ≡ Some (n, Some v) →
-    arg_by_long s.rules n ≡ Some (built_option n) →
-    s.args_override_self ≡ false → Idle s.rules given h → has_given n given ≡ false →
+    arg_by_long s.rules n ≡ Some (built_option n) → s.args_override_self ≡ false → Idle s.rules given h → has_given n given ≡ false →
     turn_passes s [] (record { held = h; waiting = idle; position = k; is_trailing = false; stopped = None }) word ≡ true
 attached_passes s given h k word n v e rule again is new =
     rw (dashes word (n, Some v) e, e, rule, again, is.passes, is.rows, has_row_given n given, new) refl
 
 separate_passes : (s : Shape) (given : List (Text × Text)) (h : Held) (k : ℕ) (word n : Text) → long_of word ≡ Some (n, None) →
-    arg_by_long s.rules n ≡ Some (built_option n) →
-    s.args_override_self ≡ false → Idle s.rules given h →
+    arg_by_long s.rules n ≡ Some (built_option n) → s.args_override_self ≡ false → Idle s.rules given h →
     turn_passes s [] (record { held = h; waiting = idle; position = k; is_trailing = false; stopped = None }) word ≡ true
 separate_passes s given h k word n e rule again is = rw (dashes word (n, None) e, e, rule, again, is.passes) refl
 
@@ -265,9 +260,8 @@ abbrev pub StepsWith : List Text → Shape → Text → Walk → Reading → Typ
 StepsWith names s word w r2 = (turn_passes s [] w word ≡ true) × Tied names s.rules r2.waiting r2.left r2.given (walked s.rules [] w word)
 
 value_step : (names : List Text) (s : Shape) → Rules names s.rules →
-    (left : List Text) (given : List (Text × Text)) (n word : Text) (w : Walk) (r2 : Reading) →
-    WaitsAt names s.rules n left given w → step names word (record { waiting = Some n; left = left; given = given }) ≡ Some r2 →
-    StepsWith names s word w r2
+    (left : List Text) (given : List (Text × Text)) (n word : Text) (w : Walk) (r2 : Reading) → WaitsAt names s.rules n left given w →
+    step names word (record { waiting = Some n; left = left; given = given }) ≡ Some r2 → StepsWith names s word w r2
 value_step names s rules left given n word w r2 tied e =
     let plain = unless_Some (is_hyphened word) _ r2 e in
     let is = gives_is n word (record { waiting = Some n; left = left; given = given }) r2 plain.1 in
@@ -284,9 +278,8 @@ value_step names s rules left given n word w r2 tied e =
     )
 
 attached_step : (names : List Text) (s : Shape) → Rules names s.rules → s.args_override_self ≡ false →
-    (left : List Text) (given : List (Text × Text)) (h : Held) (k : ℕ)
-    (n v word : Text) (r2 : Reading) → Idle s.rules given h → Operands s.rules k left → long_of word ≡ Some (n, Some v) →
-    is_option_name names n ≡ true →
+    (left : List Text) (given : List (Text × Text)) (h : Held) (k : ℕ) (n v word : Text) (r2 : Reading) → Idle s.rules given h →
+    Operands s.rules k left → long_of word ≡ Some (n, Some v) → is_option_name names n ≡ true →
     gives n v (record { waiting = None; left = left; given = given }) ≡ Some r2 → StepsWith names s word (walk_at k idle h) r2
 attached_step names s rules again left given h k n v word r2 idle_now operands long listed e =
     let is = gives_is n v (record { waiting = None; left = left; given = given }) r2 e in
@@ -303,9 +296,8 @@ attached_step names s rules again left given h k n v word r2 idle_now operands l
     )
 
 separate_step : (names : List Text) (s : Shape) → Rules names s.rules → s.args_override_self ≡ false →
-    (left : List Text) (given : List (Text × Text)) (h : Held) (k : ℕ)
-    (n word : Text) → Idle s.rules given h → Operands s.rules k left → long_of word ≡ Some (n, None) → is_option_name names n ≡ true →
-    has_given n given ≡ false →
+    (left : List Text) (given : List (Text × Text)) (h : Held) (k : ℕ) (n word : Text) → Idle s.rules given h → Operands s.rules k left →
+    long_of word ≡ Some (n, None) → is_option_name names n ≡ true → has_given n given ≡ false →
     StepsWith names s word (walk_at k idle h) (record { waiting = Some n; left = left; given = given })
 separate_step names s rules again left given h k n word idle_now operands long listed new =
     let rule = rules.long n listed in (
@@ -338,9 +330,8 @@ operand_step names s again (n ∷ rest) given h k word r2 idle_now operands plai
     )
 
 value_or_name : (names : List Text) (s : Shape) → Rules names s.rules → s.args_override_self ≡ false →
-    (left : List Text) (given : List (Text × Text)) (h : Held) (k : ℕ)
-    (n word : Text) (v : Option Text) (r2 : Reading) → Idle s.rules given h → Operands s.rules k left → long_of word ≡ Some (n, v) →
-    is_option_name names n ≡ true →
+    (left : List Text) (given : List (Text × Text)) (h : Held) (k : ℕ) (n word : Text) (v : Option Text) (r2 : Reading) →
+    Idle s.rules given h → Operands s.rules k left → long_of word ≡ Some (n, v) → is_option_name names n ≡ true →
     has_given n given ≡ false → with_value n v (record { waiting = None; left = left; given = given }) ≡ Some r2 →
     StepsWith names s word (walk_at k idle h) r2
 value_or_name names s rules again left given h k n word (Some v) r2 idle_now operands long listed new e =
@@ -381,8 +372,7 @@ one_step names s rules again None left given word w r2 tied e =
 -- ---- all the words
 
 pub all_steps : (names : List Text) (s : Shape) → Rules names s.rules → s.args_override_self ≡ false →
-    (words : List Text) (r r2 : Reading) (w : Walk) →
-    Tied names s.rules r.waiting r.left r.given w → reads names words r ≡ Some r2 →
+    (words : List Text) (r r2 : Reading) (w : Walk) → Tied names s.rules r.waiting r.left r.given w → reads names words r ≡ Some r2 →
     (walk_passes s [] w words ≡ true) × Tied names s.rules r2.waiting r2.left r2.given (fold (walked s.rules []) w words)
 unfolding reads walk_passes
 all_steps names s rules again [] r r2 w tied e = let same : r ≡ r2 = cc in

@@ -35,9 +35,7 @@ weight_fits n h =
 -- the lowest bit is at the place where the loop is
 pub lowest_here : (v k w : ℕ) → k < w → v % 2 ≡ 1 → k + lowest_bit v (w - k) ≡ k
 unfolding lowest_bit
-lowest_here v k w h odd =
-    let next : w - k ≡ suc (w - (k + 1)) = omega arith in
-    rw (next, lowest_bit, odd) (omega arith)
+lowest_here v k w h odd = let next : w - k ≡ suc (w - (k + 1)) = omega arith in rw (next, lowest_bit, odd) (omega arith)
 
 -- or it is further up
 pub lowest_further : (v k w : ℕ) → k < w → v % 2 ≢ 1 → k + lowest_bit v (w - k) ≡ k + 1 + lowest_bit (v / 2) (w - (k + 1))
@@ -50,26 +48,18 @@ lowest_further v k w h even =
 -- the highest bit is at the place where the loop is
 pub highest_here : (v k w : ℕ) → k < w → v < 2 → k + highest_bit v (w - k) ≡ k
 unfolding highest_bit
-highest_here v k w h small =
-    let next : w - k ≡ suc (w - (k + 1)) = omega arith in
-    rw (next, highest_bit, lt-ltb v 2 small) (omega arith)
+highest_here v k w h small = let next : w - k ≡ suc (w - (k + 1)) = omega arith in rw (next, highest_bit, lt-ltb v 2 small) (omega arith)
 
 -- or it is further up
 pub highest_further : (v k w : ℕ) → k < w → 2 ≤ v → k + highest_bit v (w - k) ≡ k + 1 + highest_bit (v / 2) (w - (k + 1))
 unfolding highest_bit
-highest_further v k w h large =
-    let next : w - k ≡ suc (w - (k + 1)) = omega arith in
-    rw (next, highest_bit, le-ltb v 2 large) (omega arith)
+highest_further v k w h large = let next : w - k ≡ suc (w - (k + 1)) = omega arith in rw (next, highest_bit, le-ltb v 2 large) (omega arith)
 
 -- where all bits were looked at, none is left
 pub none_lower : (v k w : ℕ) → w ≤ k → k + lowest_bit v (w - k) ≡ k
 unfolding lowest_bit
-none_lower v k w h =
-    let none : w - k ≡ 0 = omega arith in
-    rw (none, lowest_bit) (omega arith)
+none_lower v k w h = let none : w - k ≡ 0 = omega arith in rw (none, lowest_bit) (omega arith)
 
 pub none_higher : (v k w : ℕ) → w ≤ k → k + highest_bit v (w - k) ≡ k
 unfolding highest_bit
-none_higher v k w h =
-    let none : w - k ≡ 0 = omega arith in
-    rw (none, highest_bit) (omega arith)
+none_higher v k w h = let none : w - k ≡ 0 = omega arith in rw (none, highest_bit) (omega arith)

@@ -21,8 +21,7 @@ unfolding register
 ah_fits r = omega arith
 
 pub push_is : (w : World) (big : Bool) (width number v esp : ℕ) (x : Write) (after : ℕ) (p : Pending) (r : Regs) → big ≡ has_big_stack w →
-    r ≡ w.regs →
-    v ≡ register r width number → p.regs.esp ≡ esp →
+    r ≡ w.regs → v ≡ register r width number → p.regs.esp ≡ esp →
     ((u : World) (q : Pending) → has_big_stack u ≡ big → q.regs.esp ≡ esp → with_pushed_number u width v q ≡ with_push x after q) →
     with_pushed_register w width number p ≡ with_push x after p
 push_is w big width number v esp x after p r is own value top item =

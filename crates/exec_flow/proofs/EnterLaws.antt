@@ -22,8 +22,7 @@ planned_read_err w input rest event e = rw (plan_result, e) refl
 
 -- a level whose frame pointer is read
 pub frames_next : (w : World) (i : Insn) (level n : ℕ) (p : Pending) (rest : Pending → Act) (v : ℕ) →
-    value_of w (From Ss (saved_frame w i level) (byte_count i.width)) ≡ Ok v →
-    plan_result w (push_saved_frames w i level (suc n) p rest)
+    value_of w (From Ss (saved_frame w i level) (byte_count i.width)) ≡ Ok v → plan_result w (push_saved_frames w i level (suc n) p rest)
     ≡ plan_result w (push_saved_frames w i (level + 1) n (with_pushed_number w i.width v p) rest)
 unfolding push_saved_frames
 frames_next w i level n p rest v e = planned_read w _ _ v e
@@ -62,8 +61,7 @@ unfolding frame_reads
 reads_next w i level n v list e = rw (frame_reads, e) refl
 
 pub reads_stop : (w : World) (i : Insn) (level n : ℕ) (event : Event) (list : List Access) →
-    value_of w (frame_input w i level) ≡ Err event →
-    frame_reads w i level (suc n) list ≡ None
+    value_of w (frame_input w i level) ≡ Err event → frame_reads w i level (suc n) list ≡ None
 unfolding frame_reads
 reads_stop w i level n event list e = rw (frame_reads, e) refl
 

@@ -42,8 +42,7 @@ machine_away v m = grind arith
 
 -- and with the instruction pointer moved
 pub behind_away : (v : MachineView) (len : ℕ) → LiesAway v → LiesAway (view_with_next_eip len v)
-behind_away v len h =
-    record { size = h.size; away = λ p can. h.away p (record { at = can.at; is = can.is; may = can.may }) }
+behind_away v len h = record { size = h.size; away = λ p can. h.away p (record { at = can.at; is = can.is; may = can.may }) }
 
 -- ---- one byte
 

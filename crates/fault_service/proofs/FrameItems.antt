@@ -56,8 +56,7 @@ pointer_is w n esp e small = grind (arith, cut_small)
 value_is : (w : World) (bits place off : ℕ) (bytes : List ℕ) → stack_pointer_up w (byte_count bits * place) w.regs ≡ off →
     read_result w Ss off (byte_count bits) ≡ Ok bytes → value_of w (stack_item w bits place) ≡ Ok (little_endian bytes)
 unfolding value_of stack_item
-value_is w bits place off bytes pointer e =
-    ap (λ (a : ℕ). number_read (read_result w Ss a (byte_count bits))) pointer ∙ ap number_read e
+value_is w bits place off bytes pointer e = ap (λ (a : ℕ). number_read (read_result w Ss a (byte_count bits))) pointer ∙ ap number_read e
 
 item_is : (w : World) (bits offset : ℕ) (frame : List ℕ) (place at : ℕ) → AtFrame w bits offset frame →
     offset + 2 * byte_count bits + byte_count bits * place ≡ offset + at → at + byte_count bits ≤ 8 * byte_count bits →
@@ -91,8 +90,7 @@ carried_left y plan p e none = carried_by y plan p e ∙ settled_is y p none
 
 pub popped_is : (y : MachineView) (bits ip cs image sp ss : ℕ) → ItemValues y.world bits ip cs image sp ss →
     load_fault y.world.descriptors Cs (low_half cs) ip true ≡ None → load_fault y.world.descriptors Ss (low_half ss) 0 false ≡ None →
-    after_plan y (plan_result y.world (exception_frame_pop y.world bits))
-    ≡ Ok
+    after_plan y (plan_result y.world (exception_frame_pop y.world bits)) ≡ Ok
     (with_state (frame_regs y.world.regs ip (low_half cs) (low_half image) sp (low_half ss)) (has_bit (low_half image) INTERRUPT_BIT) y)
 popped_is y bits ip cs image sp ss h code stack =
     carried_left y (plan_result y.world (exception_frame_pop y.world bits))

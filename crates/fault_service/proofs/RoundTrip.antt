@@ -90,12 +90,10 @@ frame_there : (v : MachineView) (f : Fault) (r : Regs) (on : Bool) → IsSound v
     far_bytes (world_then v f r on) (stacks_at (exception_frame_start v.world).off) (8 * byte_count (frame_bits v.world))
     ≡ exception_frame v.world f
 unfolding frame_written
-frame_there v f r on s some room =
-    grind (arith, far_same, length-frame, size_small, stacks_reachable, written_is_read)
+frame_there v f r on s some room = grind (arith, far_same, length-frame, size_small, stacks_reachable, written_is_read)
 
 at_frame : (v : MachineView) (f : Fault) (p : FarPtr) (r : Regs) (on : Bool) → IsSound v.world → v.world.mode ≡ Protected →
-    v.world.width ≢ None →
-    depth v.world < GREATEST_DEPTH → p.sel < 0x10000 → HasSegments r → r.ss ≡ selector_of HOST_STACKS →
+    v.world.width ≢ None → depth v.world < GREATEST_DEPTH → p.sel < 0x10000 → HasSegments r → r.ss ≡ selector_of HOST_STACKS →
     r.esp ≡ (exception_frame_start v.world).off + 2 * byte_count (frame_bits v.world) →
     AtFrame (world_then v f r on) (frame_bits v.world) (exception_frame_start v.world).off (exception_frame v.world f)
 at_frame v f p r on s mode some room word segments ss esp =
@@ -156,8 +154,7 @@ trip_delivered : FlagsTrip → InterruptTrip → (v : MachineView) (f : Fault) (
     v.world.width ≢ None → depth v.world < GREATEST_DEPTH → p.sel < 0x10000 → HasSegments r → r.ss ≡ selector_of HOST_STACKS →
     r.esp ≡ (exception_frame_start v.world).off + 2 * byte_count (frame_bits v.world) →
     load_fault v.world.descriptors Cs v.world.regs.cs (cut_item (frame_bits v.world) v.world.regs.eip) true ≡ None →
-    load_fault v.world.descriptors Ss v.world.regs.ss 0 false ≡ None →
-    exception_return (with_state r on (after_delivery v f p))
+    load_fault v.world.descriptors Ss v.world.regs.ss 0 false ≡ None → exception_return (with_state r on (after_delivery v f p))
     ≡ Ok (with_state (regs_after_return v.world r) v.world.vif (after_pop (after_delivery v f p)))
 trip_delivered trip interrupt v f p r on s mode some room word segments ss esp code stack =
     let y = with_state r on (after_delivery v f p) in
@@ -264,8 +261,7 @@ popped_by calls (Some (Exc number code)) is e =
     record { number = number; code = code; top_is = is; is = split_last calls (Exc number code) is }
 
 returned_calls : (r : Result MachineView Event) (v u : MachineView) → ((x : MachineView) → r ≡ Ok x → Restores v x) →
-    result_of_exception_pop r ≡ Ok u →
-    u.world.calls ≡ but_last v.world.calls
+    result_of_exception_pop r ≡ Ok u → u.world.calls ≡ but_last v.world.calls
 returned_calls (Ok x) v u restores e =
     let same : u.world.calls ≡ but_last x.world.calls = ap calls_of (sym e) in
     same ∙ ap (λ (t : MachineView). but_last t.world.calls) (restores x refl).is
@@ -277,8 +273,7 @@ returned_calls (Err g) v u restores e = absurd cc
 
 where_exception : (exception : Bool) (v u : MachineView) → is_exception (top v.world) ≡ exception →
     (if exception then result_of_exception_pop (after_plan v (plan_result v.world (exception_frame_pop v.world (frame_bits v.world))))
-    else Err exits.Stray) ≡ Ok u →
-    Popped v.world.calls u.world.calls
+    else Err exits.Stray) ≡ Ok u → Popped v.world.calls u.world.calls
 where_exception true v u is e =
     let rest = returned_calls (after_plan v (plan_result v.world (exception_frame_pop v.world (frame_bits v.world)))) v u
     (λ x was. pop_restores v x (frame_bits v.world) was) e in

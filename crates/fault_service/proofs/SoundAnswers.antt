@@ -93,8 +93,7 @@ back_bytes (Err g) v u some keeps e = absurd cc
 
 where_exception : (exception : Bool) (v u : MachineView) → is_exception (top v.world) ≡ exception →
     (if exception then result_of_exception_pop (after_plan v (plan_result v.world (exception_frame_pop v.world (frame_bits v.world))))
-    else Err exits.Stray) ≡ Ok u →
-    (0 < depth v.world) × (u.bytes ≡ put v.bytes (record_place (depth v.world - 1)) (zeros record_size))
+    else Err exits.Stray) ≡ Ok u → (0 < depth v.world) × (u.bytes ≡ put v.bytes (record_place (depth v.world - 1)) (zeros record_size))
 where_exception true v u is e =
     let some = exception_there v.world is in (
       some,
@@ -160,8 +159,7 @@ sound_frame v f s =
     sound_far v (exception_frame_start v.world) (exception_frame_size v.world) (exception_frame v.world f) s (frame_is_bytes v.world f)
 
 pub sound_delivered : (v : MachineView) (f : Fault) (p : FarPtr) → IsSound v.world → v.world.width ≢ None → depth v.world < GREATEST_DEPTH →
-    p.sel < 0x10000 →
-    IsSound (after_delivery v f p).world
+    p.sel < 0x10000 → IsSound (after_delivery v f p).world
 unfolding after_delivery frame_written
 sound_delivered v f p s some room small = grind (arith, depth_kept, handler_segments, length-append, sound_frame, width_kept)
 
@@ -177,8 +175,7 @@ sound_delivery v u f s mode e =
 -- ---- a return
 
 sound_returned : (r : Result MachineView Event) (v u : MachineView) → IsSound v.world → 0 < depth v.world →
-    ((x : MachineView) → r ≡ Ok x → Restores v x) →
-    result_of_exception_pop r ≡ Ok u → IsSound u.world
+    ((x : MachineView) → r ≡ Ok x → Restores v x) → result_of_exception_pop r ≡ Ok u → IsSound u.world
 sound_returned (Ok x) v u s some restores e =
     let h = restores x refl in
     let calls = take (depth v.world - 1) v.world.calls in
@@ -197,8 +194,7 @@ sound_returned (Err g) v u s some restores e = absurd cc
 
 where_an_exception : (exception : Bool) (v u : MachineView) → IsSound v.world → is_exception (top v.world) ≡ exception →
     (if exception then result_of_exception_pop (after_plan v (plan_result v.world (exception_frame_pop v.world (frame_bits v.world))))
-    else Err exits.Stray) ≡ Ok u →
-    IsSound u.world
+    else Err exits.Stray) ≡ Ok u → IsSound u.world
 where_an_exception true v u s is e =
     sound_returned (after_plan v (plan_result v.world (exception_frame_pop v.world (frame_bits v.world)))) v u s
     (exception_there v.world is)

@@ -84,9 +84,7 @@ decoded_in v u Invalid before e = absurd cc
 
 pub written_touched : (v u : MachineView) → client_step v ≡ Ok u → AreIn (touched_by_step v.world) (written_places v.world)
 unfolding client_step touched_by_step written_places
-written_touched v u e =
-    let w = v.world in
-    decoded_in v u (decoded (has_big_code w) (code w)) (touched_by_fetch w 0 code_room) e
+written_touched v u e = let w = v.world in decoded_in v u (decoded (has_big_code w) (code w)) (touched_by_fetch w 0 code_room) e
 
 -- ---- a software interrupt whose pushes are made
 
@@ -183,8 +181,7 @@ third_in first second third fourth =
     (Contains-append_right second (third ++ fourth) p (Contains-append_left third fourth p here))) third (All-contains_itself third)
 
 executed_pushes : (v : MachineView) (insn : Insn) (long number len : ℕ) (before : List Place) →
-    after_instruction v insn long ≡ Err (Soft number len) →
-    first_write_fault (with_next_eip long v.world) (pushes v.world long) ≡ None →
+    after_instruction v insn long ≡ Err (Soft number len) → first_write_fault (with_next_eip long v.world) (pushes v.world long) ≡ None →
     AreIn (before ++ touched_by_decoded v.world (Whole insn long)) (interrupt_places v.world long)
 unfolding after_instruction
 executed_pushes v insn long number len before e granted =

@@ -82,8 +82,7 @@ letter_fits (e ∷ es) = omega arith
 
 -- bytes below read-only memory leave the megabyte sound
 SoundMegabyte-put : (dos : List ℕ) (at : ℕ) (xs : List ℕ) → SoundMegabyte dos → at + length xs ≤ ROM_START →
-    ((k : ℕ) → slice_index xs k < 0x100) →
-    SoundMegabyte (put dos at xs)
+    ((k : ℕ) → slice_index xs k < 0x100) → SoundMegabyte (put dos at xs)
 SoundMegabyte-put dos at [] sound low fits = sound
 SoundMegabyte-put dos at (x ∷ xs) sound low fits =
     SoundMegabyte-put (set dos at x) (at + 1) xs (SoundMegabyte-set dos at x sound (omega arith) (fits 0)) (omega arith) (λ k. fits (suc k))
@@ -139,8 +138,7 @@ letter_is es place n e small = grind (arith, cases_eq, eq-eqb, length-drop, ne_e
 
 pub one_header : (b c last : List ℕ) (n place : ℕ) (entry : DosEntry) (letter : ℕ) → n ≡ entry_count (arena_part b) → place < n →
     arena_part c ≡ arena_part b → entry ≡ entry_at c (PAGE_SIZE * DOS_LIST + entry_size * place) →
-    letter ≡ (if nat_eq (place + 1) n then 0x5A else 0x4D) →
-    with_headers c (drop place (arena_in (arena_part b))) ≡ last →
+    letter ≡ (if nat_eq (place + 1) n then 0x5A else 0x4D) → with_headers c (drop place (arena_in (arena_part b))) ≡ last →
     with_headers (put c (PARAGRAPH_SIZE * entry.at) (dos_header letter entry)) (drop (place + 1) (arena_in (arena_part b))) ≡ last
 one_header b c last n place entry letter count small same is by so_far =
     let es = arena_in (arena_part b) in

@@ -31,8 +31,7 @@ bytes_before : (es : List DosEntry) (place old : ℕ) (new : List DosEntry) (at 
 bytes_before es place old new at within small = grind (arith, at_arena_bytes, bytes_left, bytes_take, length-take)
 
 bytes_new : (es : List DosEntry) (place old : ℕ) (new : List DosEntry) (at i : ℕ) → place + old ≤ length es → at ≡ entry_size * place + i →
-    i < entry_size * length new →
-    get_or (arena_bytes (with_replaced_entries es place old new)) at 0 ≡ get_or (list_bytes new) i 0
+    i < entry_size * length new → get_or (arena_bytes (with_replaced_entries es place old new)) at 0 ≡ get_or (list_bytes new) i 0
 bytes_new es place old new at i within e small = grind (arith, at_arena_bytes, bytes_left, bytes_right, length-take)
 
 bytes_behind : (es : List DosEntry) (place old : ℕ) (new : List DosEntry) (at i : ℕ) → place + old ≤ length es →
@@ -120,8 +119,7 @@ record IsSplice (b c : List ℕ) (n place old : ℕ) (new : List DosEntry) : Typ
   pub others : (at : ℕ) → (at < list_start) ⊎ (list_start + list_size ≤ at) → get_or c at 0 ≡ get_or b at 0
 
 is_splice : (b : List ℕ) (n place old : ℕ) (new : List DosEntry) → HasFrames b → n ≤ entry_room → place + old ≤ n →
-    n + length new ≤ entry_room + old →
-    IsSplice b (spliced_bytes b list_start n place old new) n place old new
+    n + length new ≤ entry_room + old → IsSplice b (spliced_bytes b list_start n place old new) n place old new
 is_splice b n place old new frames few within fits =
     let count = length new in
     let from = list_start + entry_size * (place + old) in
@@ -159,9 +157,7 @@ is_splice b n place old new frames few within fits =
 
 -- so they put the bytes of the entries after it
 pub splice_put : (b : List ℕ) (n place old : ℕ) (new : List DosEntry) → HasFrames b → KeepsArena (arena_part b) →
-    n ≡ entry_count (arena_part b) →
-    place + old ≤ n → n + length new ≤ entry_room + old →
-    spliced_bytes b list_start n place old new
+    n ≡ entry_count (arena_part b) → place + old ≤ n → n + length new ≤ entry_room + old → spliced_bytes b list_start n place old new
     ≡ put b list_start (arena_bytes (with_replaced_entries (arena_in (arena_part b)) place old new))
 splice_put b n place old new frames keeps count within fits =
     let few = entries_few (arena_part b) 0 entry_room in

@@ -54,8 +54,7 @@ keeps_width None w es dos s = grind arith
 keeps_width (Some width) w es dos s = s
 
 pub IsSound-entries : (w : World) (place old : ℕ) (new : List DosEntry) → IsSound w → NoneMade (take old (drop place w.arena)) →
-    NoneMade new →
-    IsArena (with_replaced_entries w.arena place old new) → IsSound (with_entries w place old new)
+    NoneMade new → IsArena (with_replaced_entries w.arena place old new) → IsSound (with_entries w place old new)
 unfolding with_entries
 IsSound-entries w place old new s gone none arena =
     let megabyte = SoundMegabyte-headers w.dos (with_replaced_entries w.arena place old new) ARENA_START s.megabyte arena.fills in
@@ -74,8 +73,7 @@ count_of k b v is = ap (λ (es : List DosEntry). length es) (arena_of k b v is) 
 
 -- the entries after it have room
 pub splice_fits : (es : List DosEntry) (place old : ℕ) (new : List DosEntry) → place + old ≤ length es →
-    IsArena (with_replaced_entries es place old new) →
-    ARENA_START + (length es + length new) ≤ ARENA_END + old
+    IsArena (with_replaced_entries es place old new) → ARENA_START + (length es + length new) ≤ ARENA_END + old
 splice_fits es place old new within arena =
     let total = length-spliced es place old new within in
     let few = arena_few (with_replaced_entries es place old new) arena in
@@ -114,8 +112,7 @@ written_is b a c es frames arena is headers = grind (arith, arena_after, list_st
 
 -- the memory after it holds the world with these entries, which is sound
 pub entries_holds : (k : Processor) (b c : List ℕ) (v : MachineView) (place old : ℕ) (new : List DosEntry) →
-    record { world = held_world k b; bytes = b } ≡ v →
-    Holds b k.budget → IsArena (with_replaced_entries v.world.arena place old new) →
+    record { world = held_world k b; bytes = b } ≡ v → Holds b k.budget → IsArena (with_replaced_entries v.world.arena place old new) →
     c ≡ with_arena b (with_replaced_entries v.world.arena place old new) → Holds c k.budget
 entries_holds k b c v place old new view holds arena is =
     rw is (arena_holds b k.budget holds (with_replaced_entries v.world.arena place old new) arena)
@@ -127,25 +124,21 @@ unfolding with_entries
 with_entries_is w place old new = refl
 
 pub entries_world : (k : Processor) (b c : List ℕ) (v : MachineView) (place old : ℕ) (new : List DosEntry) →
-    record { world = held_world k b; bytes = b } ≡ v →
-    Holds b k.budget → IsArena (with_replaced_entries v.world.arena place old new) →
-    c ≡ with_arena b (with_replaced_entries v.world.arena place old new) →
-    held_world k c ≡ with_entries v.world place old new
+    record { world = held_world k b; bytes = b } ≡ v → Holds b k.budget → IsArena (with_replaced_entries v.world.arena place old new) →
+    c ≡ with_arena b (with_replaced_entries v.world.arena place old new) → held_world k c ≡ with_entries v.world place old new
 entries_world k b c v place old new view holds arena is = grind (arith, arena_world, with_entries_is)
 
 pub entries_sound : (k : Processor) (b c : List ℕ) (v : MachineView) (place old : ℕ) (new : List DosEntry) →
-    record { world = held_world k b; bytes = b } ≡ v →
-    Holds b k.budget → IsSound (held_world k b) → NoneMade (take old (drop place v.world.arena)) → NoneMade new →
-    IsArena (with_replaced_entries v.world.arena place old new) → c ≡ with_arena b (with_replaced_entries v.world.arena place old new) →
-    IsSound (held_world k c)
+    record { world = held_world k b; bytes = b } ≡ v → Holds b k.budget → IsSound (held_world k b) →
+    NoneMade (take old (drop place v.world.arena)) → NoneMade new → IsArena (with_replaced_entries v.world.arena place old new) →
+    c ≡ with_arena b (with_replaced_entries v.world.arena place old new) → IsSound (held_world k c)
 entries_sound k b c v place old new view holds sound gone none arena is =
     subst IsSound (sym (entries_world k b c v place old new view holds arena is))
     (IsSound-entries v.world place old new (subst (λ (x : MachineView). IsSound x.world) view sound) gone none arena)
 
 -- what was put is said of the machine's entries
 pub put_is : (es xs : List DosEntry) (b c : List ℕ) (place old : ℕ) (new : List DosEntry) → es ≡ xs →
-    c ≡ with_arena b (with_replaced_entries xs place old new) →
-    c ≡ with_arena b (with_replaced_entries es place old new)
+    c ≡ with_arena b (with_replaced_entries xs place old new) → c ≡ with_arena b (with_replaced_entries es place old new)
 put_is es xs b c place old new same is = rw same is
 
 -- the descriptors stay

@@ -58,8 +58,7 @@ pub record ReplacedMachine (k : Processor) (b c : List ℕ) (blocks : List (Opti
   pub addresses : (p : Place) → IsHeld (held_world k b) p → IsHeld (held_world k c) p → address_of c p ≡ address_of b p
 
 pub replaced_machine : (k : Processor) (b c : List ℕ) (blocks : List (Option MemoryBlock)) → IsSound (held_world k b) →
-    (held_world k b).width ≢ None →
-    ReplacesBlocks b c k.budget blocks → ReplacedMachine k b c blocks
+    (held_world k b).width ≢ None → ReplacesBlocks b c k.budget blocks → ReplacedMachine k b c blocks
 replaced_machine k b c blocks sound some replaces = grind (arith, held_blocks, held_budget, held_in, sound_blocks)
 
 -- the block of a handle lies at the index before it
@@ -75,8 +74,7 @@ put_handle blocks (suc place) x some = ap (λ (k : ℕ). slice_set blocks k x) (
 
 -- a block that may be made
 pub can_make : (blocks : List (Option MemoryBlock)) (budget handle base pages : ℕ) → length blocks ≡ MAX_BLOCKS → 0 < handle →
-    handle ≤ MAX_BLOCKS →
-    block_at blocks handle ≡ None → CanMake blocks budget base pages → CanHold blocks budget (handle - 1) base 0 pages
+    handle ≤ MAX_BLOCKS → block_at blocks handle ≡ None → CanMake blocks budget base pages → CanHold blocks budget (handle - 1) base 0 pages
 can_make blocks budget handle base pages long some most free can =
     let room = can.room in
     record {
@@ -94,9 +92,8 @@ can_make blocks budget handle base pages long some most free can =
 -- what the calls ask of the memory
 
 pub may_make : (k : Processor) (b : List ℕ) (v : MachineView) → IsView k b v → Holds b k.budget → IsSound (held_world k b) →
-    (handle base pages : ℕ) → 0 < handle → handle ≤ MAX_BLOCKS →
-    block_at v.world.blocks handle ≡ None → length v.world.blocks ≡ MAX_BLOCKS → CanMake v.world.blocks v.world.budget base pages →
-    CanHoldIn b (handle - 1) base 0 pages
+    (handle base pages : ℕ) → 0 < handle → handle ≤ MAX_BLOCKS → block_at v.world.blocks handle ≡ None →
+    length v.world.blocks ≡ MAX_BLOCKS → CanMake v.world.blocks v.world.budget base pages → CanHoldIn b (handle - 1) base 0 pages
 may_make k b v is holds sound handle base pages some most free long can = record {
   budget = k.budget;
   holds = holds_blocks k b holds sound;
@@ -105,8 +102,7 @@ may_make k b v is holds sound handle base pages some most free long can = record
 }
 
 pub may_drop : (k : Processor) (b : List ℕ) (v : MachineView) → IsView k b v → Holds b k.budget → IsSound (held_world k b) → (handle : ℕ) →
-    0 < handle → handle ≤ MAX_BLOCKS →
-    block_at v.world.blocks handle ≢ None → HasBlockIn b (handle - 1)
+    0 < handle → handle ≤ MAX_BLOCKS → block_at v.world.blocks handle ≢ None → HasBlockIn b (handle - 1)
 may_drop k b v is holds sound handle some most held = record {
   budget = k.budget;
   holds = holds_blocks k b holds sound;
@@ -150,10 +146,9 @@ pub record BlockCall (m : Inside) (v : MachineView) (c : List ℕ) (cache : List
   pub addresses : (p : Place) → IsHeld v.world p → IsHeld (held_world (processor_of m) c) p → address_of c p ≡ address_of v.bytes p
 
 pub block_call : (m : Inside) (v : MachineView) → view_of m ≡ v → IsWhole m → (c : List ℕ) (cache : List CacheEntry) →
-    ((b : List ℕ) → Warm b cache) →
-    (handle : ℕ) (change : Option MemoryBlock → Option MemoryBlock) (x : Option MemoryBlock) → 0 < handle →
-    ReplacesBlock m.ram c (handle - 1) change →
-    v.world.width ≢ None → change (block_at v.world.blocks handle) ≡ x → BlockCall m v c cache handle x
+    ((b : List ℕ) → Warm b cache) → (handle : ℕ) (change : Option MemoryBlock → Option MemoryBlock) (x : Option MemoryBlock) → 0 < handle →
+    ReplacesBlock m.ram c (handle - 1) change → v.world.width ≢ None → change (block_at v.world.blocks handle) ≡ x →
+    BlockCall m v c cache handle x
 block_call m v is whole c cache warm handle change x some replaces width e =
     subst (λ (u : MachineView). u.world.width ≢ None → change (block_at u.world.blocks handle) ≡ x → BlockCall m u c cache handle x) is
     (λ own_width own.
@@ -164,14 +159,12 @@ block_call m v is whole c cache warm handle change x some replaces width e =
 
 -- what a free handle gets takes no place away
 pub held_after_make : (w now : World) (handle : ℕ) (x : Option MemoryBlock) → 0 < handle → handle ≤ length w.blocks →
-    block_at w.blocks handle ≡ None →
-    now.blocks ≡ with_block_at w.blocks handle x → (p : Place) → IsHeld w p → IsHeld now p
+    block_at w.blocks handle ≡ None → now.blocks ≡ with_block_at w.blocks handle x → (p : Place) → IsHeld w p → IsHeld now p
 held_after_make w now handle x some most free e p held = grind (arith, at_handle, held_in, held_still, is_held, put_handle)
 
 -- and what is held without a block is held with it
 pub held_before_drop : (w now : World) (handle : ℕ) → 0 < handle → handle ≤ length w.blocks →
-    now.blocks ≡ with_block_at w.blocks handle None →
-    (p : Place) → IsHeld now p → IsHeld w p
+    now.blocks ≡ with_block_at w.blocks handle None → (p : Place) → IsHeld now p → IsHeld w p
 held_before_drop w now handle some most e p held =
     let place = handle - 1 in
     let less = slice_set w.blocks place None in
@@ -192,16 +185,14 @@ made_block base pages o free some = grind (arith, extended_fresh)
 -- the row of a handle that is held
 
 row_at_place : (k : Processor) (b : List ℕ) (v : MachineView) → IsView k b v → Holds b k.budget → IsSound (held_world k b) →
-    (handle place base pages : ℕ) →
-    handle ≡ suc place → place < MAX_BLOCKS → pages_of (handles_part b) place ≢ 0 → base ≡ base_of (handles_part b) place →
-    pages ≡ pages_of (handles_part b) place →
+    (handle place base pages : ℕ) → handle ≡ suc place → place < MAX_BLOCKS → pages_of (handles_part b) place ≢ 0 →
+    base ≡ base_of (handles_part b) place → pages ≡ pages_of (handles_part b) place →
     Some (record { base = base; pages = pages }) ≡ row_seen (block_at v.world.blocks handle)
 row_at_place k b v is holds sound handle place base pages same within some first second =
     grind (arith, block_there, held_base, held_blocks, length-held_locks)
 
 pub some_row : (k : Processor) (b : List ℕ) (v : MachineView) → IsView k b v → Holds b k.budget → IsSound (held_world k b) →
-    (handle base pages : ℕ) → handle ≢ 0 →
-    handle ≤ MAX_BLOCKS → base ≡ dword b (PAGE_SIZE * BLOCK_ROWS + BLOCK_ROW_SIZE * (handle - 1)) →
+    (handle base pages : ℕ) → handle ≢ 0 → handle ≤ MAX_BLOCKS → base ≡ dword b (PAGE_SIZE * BLOCK_ROWS + BLOCK_ROW_SIZE * (handle - 1)) →
     pages ≡ dword b (PAGE_SIZE * BLOCK_ROWS + BLOCK_ROW_SIZE * (handle - 1) + 4) → pages ≢ 0 →
     Some (record { base = base; pages = pages }) ≡ row_seen (block_at v.world.blocks handle)
 some_row k b v is holds sound handle base pages held few e f some =
@@ -242,9 +233,8 @@ pub record ReadsByte (b : List ℕ) (blocks : List (Option MemoryBlock)) (handle
       PAGE_SIZE * (entry / PAGE_SIZE) + at % PAGE_SIZE < length b
 
 reads_of : (k : Processor) (b : List ℕ) → Holds b k.budget → IsSound (held_world k b) →
-    (handle base pages at : ℕ) (o : Option MemoryBlock) →
-    block_at (held_world k b).blocks handle ≡ o → HasByte o at → 0 < handle → HasPages (held_world k b).blocks (handle - 1) base pages →
-    ReadsByte b (held_world k b).blocks handle base at
+    (handle base pages at : ℕ) (o : Option MemoryBlock) → block_at (held_world k b).blocks handle ≡ o → HasByte o at → 0 < handle →
+    HasPages (held_world k b).blocks (handle - 1) base pages → ReadsByte b (held_world k b).blocks handle base at
 reads_of k b holds sound handle base pages at None e has some row = absurd has
 reads_of k b holds sound handle base pages at (Some block) e has some row =
     let w = held_world k b in
@@ -264,8 +254,7 @@ reads_of k b holds sound handle base pages at (Some block) e has some row =
     let budget = held_budget k b in grind (arith, byte_claim, frame_byte)
 
 pub reads_byte : (k : Processor) (b : List ℕ) (v : MachineView) → IsView k b v → Holds b k.budget → IsSound (held_world k b) →
-    (handle base pages at : ℕ) →
-    HasByte (block_at v.world.blocks handle) at → HasPages (blocks_held b k.budget) (handle - 1) base pages →
+    (handle base pages at : ℕ) → HasByte (block_at v.world.blocks handle) at → HasPages (blocks_held b k.budget) (handle - 1) base pages →
     ReadsByte b v.world.blocks handle base at
 reads_byte k b v is holds sound handle base pages at has row =
     let own = subst (λ (x : MachineView). HasByte (block_at x.world.blocks handle) at) (sym is) has in
@@ -276,8 +265,7 @@ reads_byte k b v is holds sound handle base pages at has row =
 
 -- there is a block to be read
 pub may_read : (k : Processor) (b : List ℕ) (v : MachineView) → IsView k b v → Holds b k.budget → IsSound (held_world k b) →
-    IsSound v.world → (handle at : ℕ) →
-    HasByte (block_at v.world.blocks handle) at → HasBlockIn b (handle - 1)
+    IsSound v.world → (handle at : ℕ) → HasByte (block_at v.world.blocks handle) at → HasBlockIn b (handle - 1)
 may_read k b v is holds sound own handle at has =
     let some = handle_some v.world.blocks handle at has in let few = handle_few v.world handle at own has in
     record {

@@ -60,8 +60,7 @@ abbrev lock_of_world : World → ℕ → ℕ
 lock_of_world w lin = lock_in w.blocks (place_of w lin)
 
 pub region_lock : (k : Processor) (b : List ℕ) (v : MachineView) → IsView k b v → Holds b k.budget → IsSound (held_world k b) →
-    (lin n : ℕ) →
-    BLOCK_REGION ≤ lin → lin < BLOCK_REGION_END → n ≡ word_of b (PAGE_SIZE * LOCK_COUNTS + LOCK_COUNT_SIZE * page_at lin) →
+    (lin n : ℕ) → BLOCK_REGION ≤ lin → lin < BLOCK_REGION_END → n ≡ word_of b (PAGE_SIZE * LOCK_COUNTS + LOCK_COUNT_SIZE * page_at lin) →
     n ≡ lock_in v.world.blocks (place_of v.world lin)
 region_lock k b v is holds sound lin n from to e =
     e ∙ part_word b LOCK_COUNTS LOCK_COUNT_FRAMES (LOCK_COUNT_SIZE * page_at lin) (omega arith)
@@ -119,8 +118,7 @@ here_blocks k b v is lin blocks_is = grind (arith, held_blocks)
 
 -- the frame of the page lies inside the memory
 pub frame_inside : (k : Processor) (b : List ℕ) (v : MachineView) → IsView k b v → Holds b k.budget → IsSound (held_world k b) →
-    (lin entry : ℕ) →
-    IsBlocks (place_of v.world lin) → entry ≡ dword b (PAGE_SIZE * BLOCK_TABLES + PAGE_ENTRY_SIZE * page_at lin) →
+    (lin entry : ℕ) → IsBlocks (place_of v.world lin) → entry ≡ dword b (PAGE_SIZE * BLOCK_TABLES + PAGE_ENTRY_SIZE * page_at lin) →
     PAGE_SIZE * (entry / PAGE_SIZE) + PAGE_SIZE ≤ length b
 frame_inside k b v is holds sound lin entry blocks_is e =
     let here = here_blocks k b v is lin blocks_is in

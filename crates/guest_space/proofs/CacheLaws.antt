@@ -50,8 +50,7 @@ noted_ends e at true may = rw (may refl) refl
 noted_ends e at false may = refl
 
 pub hit_ends : (b : List ℕ) (e : CacheEntry) (lin : ℕ) (write : Bool) → Hit b e → e.page ≡ lin / PAGE_SIZE →
-    (write ≡ true → e.writable ≡ true) →
-    walked b PAGE_DIRECTORY lin write ≡ Ok (PAGE_SIZE * e.frame + lin % PAGE_SIZE)
+    (write ≡ true → e.writable ≡ true) → walked b PAGE_DIRECTORY lin write ≡ Ok (PAGE_SIZE * e.frame + lin % PAGE_SIZE)
 hit_ends b e lin write hit page may = grind (arith, noted_ends)
 
 -- a walk that ends at one byte of a page ends at each
@@ -92,8 +91,7 @@ tests_noted false false writes frame lin other p e = absurd (subst IsEnd (sym e)
 tests_noted false true false frame lin other p e = refl
 tests_noted false true true frame lin other p e = tests_moved false true frame lin other p e
 
-end_noted : (directory table lin other p : ℕ) → walk_end directory table lin false ≡ end_at p →
-    walk_end directory table other true
+end_noted : (directory table lin other p : ℕ) → walk_end directory table lin false ≡ end_at p → walk_end directory table other true
     ≡ if ends (walk_end directory table lin true) then end_at (PAGE_SIZE * (p / PAGE_SIZE) + other % PAGE_SIZE) else fault true
 unfolding walk_end
 end_noted directory table lin other p e = grind (arith, tests_noted)
@@ -192,8 +190,7 @@ record_beside place xs small size = record { tables = inr (omega arith); handles
 
 pub arena_addresses : (b : List ℕ) (budget : ℕ) (es : List DosEntry) → Holds b budget → IsArena es → (p : Place) →
     address_of (with_arena b es) p ≡ address_of b p
-arena_addresses b budget es holds arena =
-    addresses_of b (with_arena b es) budget _ (arena_has b budget es holds arena) refl refl
+arena_addresses b budget es holds arena = addresses_of b (with_arena b es) budget _ (arena_has b budget es holds arena) refl refl
 
 -- a write of the client
 pub write_addresses_all : (k : Processor) (v : MachineView) (lin n p : ℕ) (bytes : List ℕ) → IsMachine k v → lin < 2 ^ 32 →

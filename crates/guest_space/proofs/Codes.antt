@@ -29,8 +29,7 @@ fetched w at base e =
     ∙ ap one_byte (loaded_linear w Cs (w.regs.eip + at) 1 base (sym (code_base w.mode w.regs w.descriptors w.regs.eip at) ∙ e))
 
 loaded_refused : (w : World) (seg : SegReg) (offset n : ℕ) (f : Fault) →
-    segment_base w.mode w.regs w.descriptors seg offset n false ≡ Err f →
-    read_result w seg offset n ≡ Err f
+    segment_base w.mode w.regs w.descriptors seg offset n false ≡ Err f → read_result w seg offset n ≡ Err f
 unfolding read_result
 loaded_refused w seg offset n f e = ap (bytes_at w) (access_refused w seg offset n false f e)
 
@@ -61,8 +60,7 @@ record Allowed (o : Option Place) (w : World) (places : List Place) (bytes : Lis
   read : bytes_of w places ≡ bytes
 
 allowed_by : (o : Option Place) (w : World) (places : List Place) (bytes : List ℕ) →
-    bytes_at w (unless_forbidden o places false) ≡ Ok bytes →
-    Allowed o w places bytes
+    bytes_at w (unless_forbidden o places false) ≡ Ok bytes → Allowed o w places bytes
 allowed_by None w places bytes e = record { none = refl; read = cc }
 allowed_by (Some p) w places bytes e = absurd cc
 
@@ -120,8 +118,7 @@ unfolding code_from
 code_stops w at n f e = rw (e, code_from) refl
 
 all_code : (w : World) (at n : ℕ) (bytes : List ℕ) → length bytes ≡ n →
-    ((i : ℕ) → i < n → code_byte w (at + i) ≡ Ok (slice_index bytes i)) →
-    code_from w at n ≡ bytes
+    ((i : ℕ) → i < n → code_byte w (at + i) ≡ Ok (slice_index bytes i)) → code_from w at n ≡ bytes
 all_code w at zero [] size each = code_none w at
 all_code w at zero (x ∷ bytes) size each = absurd cc
 all_code w at (suc n) [] size each = absurd cc

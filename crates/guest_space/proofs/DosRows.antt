@@ -110,8 +110,7 @@ run_holds b budget holds run (suc k) segment after room =
 
 pub run_world : (b : List ℕ) (budget : ℕ) → Holds b budget →
     (mode : Mode) (regs : Regs) (vif : Bool) (width : Option Width) (run : DosRun) (k : ℕ) →
-    run.seg < 0x10000 → run.after < 0x10000 → run.first + k ≤ DESCRIPTORS →
-    world_of (with_run_bytes b run k) budget mode regs vif width
+    run.seg < 0x10000 → run.after < 0x10000 → run.first + k ≤ DESCRIPTORS → world_of (with_run_bytes b run k) budget mode regs vif width
     ≡ record (world_of b budget mode regs vif
     width) { descriptors = with_dos_rows (world_of b budget mode regs vif width).descriptors run k }
 unfolding with_run_bytes with_dos_rows

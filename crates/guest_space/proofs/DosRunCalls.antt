@@ -53,10 +53,9 @@ run_addresses b budget holds run (suc n) segment after room p =
     ∙ run_addresses b budget holds run n segment after (omega arith) p
 
 pub run_machine : (m : Inside) (v : MachineView) → view_of m ≡ v → IsWhole m →
-    (a c : List ℕ) (place old : ℕ) (new : List DosEntry) (run : DosRun) →
-    run.seg < 0x10000 → run.after < 0x10000 → CanPutRun v.world place old new run →
-    a ≡ with_arena m.ram (with_replaced_entries (arena_in (arena_part m.ram)) place old new) → c ≡ with_run_bytes a run (rows_of_run run) →
-    RunMachine m v c place old new run
+    (a c : List ℕ) (place old : ℕ) (new : List DosEntry) (run : DosRun) → run.seg < 0x10000 → run.after < 0x10000 →
+    CanPutRun v.world place old new run → a ≡ with_arena m.ram (with_replaced_entries (arena_in (arena_part m.ram)) place old new) →
+    c ≡ with_run_bytes a run (rows_of_run run) → RunMachine m v c place old new run
 run_machine m v view whole a c place old new run segment after can put_entries rows =
     let k = processor_of m in let b = m.ram in let holds = whole.0 in let sound = whole.1 in
     let entries = put_there m v a place old new view put_entries in

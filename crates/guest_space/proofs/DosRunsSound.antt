@@ -79,8 +79,7 @@ has_within entry (e ∷ es) from to f (inr h) = let rest = has_within entry es (
     (omega (arith, rest.0), rest.1)
 
 apart : (entry other : DosEntry) (xs ys zs : List DosEntry) (from to : ℕ) → Fills from (xs ++ (ys ++ zs)) to → Has other ys →
-    Has entry xs ⊎ Has entry zs →
-    entry.at ≢ other.at
+    Has entry xs ⊎ Has entry zs → entry.at ≢ other.at
 apart entry other xs ys zs from to f here there same = grind (arith, fills_parts, has_within)
 
 -- ---- the rows after it
@@ -96,8 +95,7 @@ pub record HasRunRows (rows : List Row) (run : DosRun) : Type 0 where
       origin ≡ Dos run.seg
 
 run_rows : (w : World) (place old : ℕ) (new : List DosEntry) (run : DosRun) → length w.descriptors ≡ DESCRIPTORS →
-    CanPutRun w place old new run →
-    HasRunRows w.descriptors run
+    CanPutRun w place old new run → HasRunRows w.descriptors run
 run_rows w place old new run size can = grind (arith, cases_lt, one_origin)
 
 was_origin : (rows : List Row) (run : DosRun) (origin : Origin) → HasRunRows rows run → Dos run.seg ≢ origin → (index : ℕ) →
@@ -132,8 +130,7 @@ rows_host : (rows : List Row) (run : DosRun) (width : Width) → HostRows rows w
 rows_host rows run width s h from = grind (arith, not_host, row_outside, was_origin)
 
 width_sound : (width : Option Width) (w v : World) (run : DosRun) → SoundWidth width w → width ≢ None → HasRunRows w.descriptors run →
-    64 ≤ run.first →
-    v.descriptors ≡ with_dos_rows w.descriptors run (rows_of_run run) → SoundWidth width v
+    64 ≤ run.first → v.descriptors ≡ with_dos_rows w.descriptors run (rows_of_run run) → SoundWidth width v
 width_sound None w v run s some h from is = absurd (some refl)
 width_sound (Some width) w v run s some h from is = rw is (rows_host w.descriptors run width s h from)
 
@@ -176,9 +173,8 @@ block_run rows run entry h from old is =
 
 -- the entries that stay are of other segments: those of the block itself are taken out, or there are none
 others_apart : (w : World) (place old : ℕ) (new : List DosEntry) (run : DosRun) (entry : DosEntry) → IsSound w →
-    CanPutRun w place old new run →
-    is_dpmi entry.state ≡ true → Has entry (take place w.arena) ⊎ Has entry (drop (place + old) w.arena) → HasRun w.descriptors entry →
-    block_segment entry ≢ run.seg
+    CanPutRun w place old new run → is_dpmi entry.state ≡ true → Has entry (take place w.arena) ⊎ Has entry (drop (place + old) w.arena) →
+    HasRun w.descriptors entry → block_segment entry ≢ run.seg
 others_apart w place old new run entry s can made there has same = elim (cases_eq run.before 0) [
   | inl none ↦ (let some = has.some in
       let here : HasOrigin (row_at_index w.descriptors has.first) (Dos run.seg) =
@@ -206,15 +202,13 @@ was_before : (entry : DosEntry) (es : List DosEntry) (place old : ℕ) → Has e
     Has entry es
 was_before entry es place old there = subst (Has entry) (parts_are es place old) (grind (arith, has_left, has_right))
 
-is_after : (entry : DosEntry) (es : List DosEntry) (place old : ℕ) (new : List DosEntry) → Has entry (take place es)
-    ⊎ Has entry (drop (place + old) es) →
-    Has entry (with_replaced_entries es place old new)
+is_after : (entry : DosEntry) (es : List DosEntry) (place old : ℕ) (new : List DosEntry) →
+    Has entry (take place es) ⊎ Has entry (drop (place + old) es) → Has entry (with_replaced_entries es place old new)
 is_after entry es place old new there = grind (arith, has_left, has_right)
 
 entry_run : (w : World) (place old : ℕ) (new : List DosEntry) (run : DosRun) (entry : DosEntry) → IsSound w →
-    CanPutRun w place old new run →
-    HasRunRows w.descriptors run → is_dpmi entry.state ≡ true → Has entry (with_replaced_entries w.arena place old new) →
-    HasRun (with_dos_rows w.descriptors run (rows_of_run run)) entry
+    CanPutRun w place old new run → HasRunRows w.descriptors run → is_dpmi entry.state ≡ true →
+    Has entry (with_replaced_entries w.arena place old new) → HasRun (with_dos_rows w.descriptors run (rows_of_run run)) entry
 entry_run w place old new run entry s can h made there = elim (has_either entry (take place w.arena) _ there) [
   | inl front ↦ kept (inl front)
   | inr rest ↦ elim (has_either entry new (drop (place + old) w.arena) rest) [
@@ -231,9 +225,8 @@ entry_run w place old new run entry s can h made there = elim (has_either entry 
         other_run w.descriptors run entry h (others_apart w place old new run entry s can made part has) has
 
 entry_of_row : (w : World) (place old : ℕ) (new : List DosEntry) (run : DosRun) (index segment : ℕ) → IsSound w →
-    CanPutRun w place old new run →
-    (index < run.first) ⊎ (run.first + rows_of_run run ≤ index) → HasOrigin (row_at_index w.descriptors index) (Dos segment) →
-    HasEntry (with_replaced_entries w.arena place old new) segment
+    CanPutRun w place old new run → (index < run.first) ⊎ (run.first + rows_of_run run ≤ index) →
+    HasOrigin (row_at_index w.descriptors index) (Dos segment) → HasEntry (with_replaced_entries w.arena place old new) segment
 entry_of_row w place old new run index segment s can away has =
     let was = s.runs.entries index segment has in
     let part = part_of was.entry w.arena place old (has_there was.entry w.arena was.place was.there) in

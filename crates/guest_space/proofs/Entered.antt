@@ -83,9 +83,8 @@ entered_world b budget holds mode regs vif width w =
     (row_world b budget holds mode regs vif width HOST_CODE host_code (omega arith) fits_code))
 
 pub entered_sound : (b : List ℕ) (budget : ℕ) → Holds b budget →
-    (mode : Mode) (regs : Regs) (vif : Bool) (width : Option Width) (w : Width) →
-    IsSound (world_of b budget mode regs vif width) → (world_of b budget mode regs vif width).width ≡ None →
-    IsSound (world_of (with_rows b w) budget mode regs vif (Some w))
+    (mode : Mode) (regs : Regs) (vif : Bool) (width : Option Width) (w : Width) → IsSound (world_of b budget mode regs vif width) →
+    (world_of b budget mode regs vif width).width ≡ None → IsSound (world_of (with_rows b w) budget mode regs vif (Some w))
 entered_sound b budget holds mode regs vif width w sound none =
     subst IsSound (sym (entered_world b budget holds mode regs vif width w))
     (IsSound-width (world_of b budget mode regs vif width) w sound none)

@@ -26,15 +26,13 @@ unfolding far_access
 far_linear w p n base write e = grind (arith, places_linear)
 
 pub far_refused : (w : World) (p : FarPtr) (n : ℕ) (write : Bool) (f : Fault) →
-    protected_base w.descriptors Es p.sel p.off n write ≡ Err f →
-    far_access w p n write ≡ Err f
+    protected_base w.descriptors Es p.sel p.off n write ≡ Err f → far_access w p n write ≡ Err f
 unfolding far_access
 far_refused w p n write f e = ap (λ (r : Result ℕ Fault). places_at w.blocks r p.off n write) e
 
 -- a check says whether it has a fault
 checked : (r : Result (Unit {0}) Fault) (x : Result (List Place) Fault) →
-    MatchResult r (λ _. fault_of x ≡ None) (λ fault. fault_of x ≡ Some fault) →
-    is_ok r ≡ is_ok x
+    MatchResult r (λ _. fault_of x ≡ None) (λ fault. fault_of x ≡ Some fault) → is_ok r ≡ is_ok x
 checked (Ok u) (Ok places) h = refl
 checked (Ok u) (Err f) h = absurd cc
 checked (Err f) (Ok places) h = absurd cc
@@ -43,13 +41,11 @@ checked (Err f) (Err g) h = refl
 pub reachable_checked : (w : World) (p : FarPtr) (n base : ℕ) (write : Bool) (r : Result (Unit {0}) Fault) →
     protected_base w.descriptors Es p.sel p.off n write ≡ Ok base →
     MatchResult r (λ _. fault_of (linear_access w ((base + p.off) % 2 ^ 32) n write) ≡ None)
-    (λ fault. fault_of (linear_access w ((base + p.off) % 2 ^ 32) n write) ≡ Some fault) →
-    is_ok r ≡ is_reachable w p n write
+    (λ fault. fault_of (linear_access w ((base + p.off) % 2 ^ 32) n write) ≡ Some fault) → is_ok r ≡ is_reachable w p n write
 reachable_checked w p n base write r e h = grind (arith, checked, far_linear)
 
 pub not_reachable : (w : World) (p : FarPtr) (n : ℕ) (write : Bool) (f : Fault) →
-    protected_base w.descriptors Es p.sel p.off n write ≡ Err f →
-    false ≡ is_reachable w p n write
+    protected_base w.descriptors Es p.sel p.off n write ≡ Err f → false ≡ is_reachable w p n write
 not_reachable w p n write f e = ap is_ok (sym (far_refused w p n write f e))
 
 -- what is reachable has no fault
@@ -63,8 +59,7 @@ pub reachable_linear : (w : World) (p : FarPtr) (n base : ℕ) (write : Bool) �
 reachable_linear w p n base write e reachable = grind (arith, far_linear, no_fault_where)
 
 pub reachable_not_refused : (w : World) (p : FarPtr) (n : ℕ) (write : Bool) (f : Fault) →
-    protected_base w.descriptors Es p.sel p.off n write ≡ Err f →
-    IsTrue (is_reachable w p n write) → ⊥
+    protected_base w.descriptors Es p.sel p.off n write ≡ Err f → IsTrue (is_reachable w p n write) → ⊥
 reachable_not_refused w p n write f e reachable = grind (arith, not_reachable)
 
 -- the bytes there, and those that are written there
@@ -79,8 +74,7 @@ unfolding far_bytes
 far_bytes_linear w p n base e reachable = grind (arith, far_places, reachable_linear)
 
 pub far_written_linear : (v : MachineView) (p : FarPtr) (n base : ℕ) (bytes : List ℕ) →
-    protected_base v.world.descriptors Es p.sel p.off n true ≡ Ok base →
-    IsTrue (is_reachable v.world p n true) →
+    protected_base v.world.descriptors Es p.sel p.off n true ≡ Ok base → IsTrue (is_reachable v.world p n true) →
     with_places v (places_from v.world.blocks ((base + p.off) % 2 ^ 32) n) bytes ≡ after_far_write v p n bytes
 unfolding after_far_write
 far_written_linear v p n base bytes e reachable = grind (arith, far_places, reachable_linear)
@@ -92,8 +86,7 @@ pub record Reached (w : World) (p : FarPtr) (n : ℕ) (write : Bool) : Type 0 wh
   pub all : AllTouch w.blocks ((base + p.off) % 2 ^ 32) n write
 
 reached_by : (w : World) (p : FarPtr) (n : ℕ) (write : Bool) (r : Result ℕ Fault) →
-    protected_base w.descriptors Es p.sel p.off n write ≡ r →
-    is_reachable w p n write ≡ true → Reached w p n write
+    protected_base w.descriptors Es p.sel p.off n write ≡ r → is_reachable w p n write ≡ true → Reached w p n write
 reached_by w p n write (Ok base) is e = record {
   base = base;
   is = is;
@@ -108,8 +101,7 @@ reached w p n write e = reached_by w p n write (protected_base w.descriptors Es 
 -- and so do its parts
 pub reachable_where : (w : World) (p : FarPtr) (n base : ℕ) (write : Bool) → protected_base w.descriptors Es p.sel p.off n write ≡ Ok base →
     AllTouch w.blocks ((base + p.off) % 2 ^ 32) n write → is_reachable w p n write ≡ true
-reachable_where w p n base write e all =
-    ap is_ok (far_linear w p n base write e ∙ access_ends w ((base + p.off) % 2 ^ 32) n write all)
+reachable_where w p n base write e all = ap is_ok (far_linear w p n base write e ∙ access_ends w ((base + p.off) % 2 ^ 32) n write all)
 
 pub parts_reachable : (w : World) (p : FarPtr) (n k m : ℕ) (write : Bool) → is_reachable w p n write ≡ true → k + m ≤ n →
     is_reachable w (further p k) m write ≡ true
@@ -121,12 +113,10 @@ parts_reachable w p n k m write e within =
 
 far_places_may : (w : World) (p : FarPtr) (n : ℕ) (places : List Place) → far_access w p n true ≡ Ok places → MayWrite places
 unfolding far_access
-far_places_may w p n places e i within =
-    (can_write_at w (protected_base w.descriptors Es p.sel p.off n true) p.off n places e i within).may
+far_places_may w p n places e i within = (can_write_at w (protected_base w.descriptors Es p.sel p.off n true) p.off n places e i within).may
 
 put_at : (w : World) (r : Result (List Place) Fault) (bytes : List ℕ) → ((places : List Place) → r ≡ Ok places → MayWrite places) →
-    IsSound w →
-    AreBytes bytes → IsSound (with_bytes_of w (places_of_access r) bytes)
+    IsSound w → AreBytes bytes → IsSound (with_bytes_of w (places_of_access r) bytes)
 put_at w (Ok places) bytes may s small = IsSound-with_bytes_of w places bytes s (may places refl) (λ i within. small i)
 put_at w (Err f) bytes may s small = s
 

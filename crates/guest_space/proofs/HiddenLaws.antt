@@ -192,9 +192,7 @@ kept_places k b c places bytes parts is = grind (arith, kept, other_places)
 
 -- the part that the machine's world has for a register
 pub part_there : (b : List ℕ) (budget : ℕ) (mode : Mode) (r : Regs) (vif : Bool) (width : Option Width) (parts : List (Option Hidden))
-    (seg : SegReg) (or : Option Hidden) →
-    parts ≡ all_found mode r (rows_from b rows_start) →
-    slice_index_or parts (number seg) or
+    (seg : SegReg) (or : Option Hidden) → parts ≡ all_found mode r (rows_from b rows_start) → slice_index_or parts (number seg) or
     ≡ found (world_of b budget mode r vif width).mode (world_of b budget mode r vif width).regs
     (world_of b budget mode r vif width).descriptors seg
 unfolding world_of

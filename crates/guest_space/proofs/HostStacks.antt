@@ -49,8 +49,7 @@ abbrev pub stacks_at : ℕ → FarPtr
 stacks_at off = record { sel = selector_of HOST_STACKS; off = off }
 
 pub stacks_reachable : (w : World) (off n : ℕ) (write : Bool) → IsSound w → w.width ≢ None →
-    off + n ≤ GREATEST_DEPTH * PROTECTED_STACK_SIZE →
-    is_reachable w (stacks_at off) n write ≡ true
+    off + n ≤ GREATEST_DEPTH * PROTECTED_STACK_SIZE → is_reachable w (stacks_at off) n write ≡ true
 stacks_reachable w off n write s some room =
     reachable_where w (stacks_at off) n PROTECTED_STACKS write (stacks_base w.width w off n write s.width some room)
     (λ i less. grind (arith, low_place))

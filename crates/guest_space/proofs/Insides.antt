@@ -34,10 +34,9 @@ pub record IsAfter (m : Inside) (v : MachineView) (c : List ℕ) (w : World) : T
 
 -- where the rows of the descriptors and the places of linear addresses are the same
 pub after_call : (m : Inside) (v : MachineView) (c : List ℕ) (w : World) → view_of m ≡ v → IsWhole m → Holds c m.pages →
-    IsSound (held_world (processor_of m) c) →
-    held_world (processor_of m) c ≡ w → w.descriptors ≡ v.world.descriptors →
-    ((lin : ℕ) → place_in w.blocks lin ≡ place_in v.world.blocks lin) →
-    ((p : Place) → address_of c p ≡ address_of v.bytes p) → IsAfter m v c w
+    IsSound (held_world (processor_of m) c) → held_world (processor_of m) c ≡ w → w.descriptors ≡ v.world.descriptors →
+    ((lin : ℕ) → place_in w.blocks lin ≡ place_in v.world.blocks lin) → ((p : Place) → address_of c p ≡ address_of v.bytes p) →
+    IsAfter m v c w
 after_call m v c w is whole holds sound world rows places addresses = record {
   whole = (
     holds,
@@ -54,8 +53,7 @@ after_call m v c w is whole holds sound world rows places addresses = record {
 
 -- the machine after bytes of the client were put where a translation ends
 pub stored_whole : (m : Inside) → IsWhole m → (lin n p : ℕ) (bytes : List ℕ) → lin < 2 ^ 32 → lin % PAGE_SIZE + n ≤ PAGE_SIZE →
-    translated (view_of m) lin true ≡ Ok p →
-    length bytes ≡ n → AllBytes bytes → IsWhole (record m { ram = put m.ram p bytes })
+    translated (view_of m) lin true ≡ Ok p → length bytes ≡ n → AllBytes bytes → IsWhole (record m { ram = put m.ram p bytes })
 stored_whole m whole lin n p bytes small room ends size all =
     let k = processor_of m in
     let machine = machine_inside m whole in

@@ -98,8 +98,7 @@ with_places_bytes v places bytes = refl
 
 -- they leave a machine a machine
 pub written_machines : (k : Processor) (v : MachineView) (places : List Place) (bytes : List ℕ) → IsMachine k v →
-    CanWriteAll v.world places →
-    AllBytes bytes → IsMachine k (with_places v places bytes)
+    CanWriteAll v.world places → AllBytes bytes → IsMachine k (with_places v places bytes)
 written_machines k v [] bytes m can small = subst (IsMachine k) (sym (with_places_none v bytes)) m
 written_machines k v (p ∷ places) [] m can small = subst (IsMachine k) (sym (with_places_short v (p ∷ places))) m
 written_machines k v (p ∷ places) (x ∷ bytes) m can small =

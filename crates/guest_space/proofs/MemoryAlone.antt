@@ -74,8 +74,7 @@ same_stored v seg offset n bytes = same_places v _ bytes
 
 -- the same places are given
 same_at : (a b : List (Option MemoryBlock)) → ((at : ℕ) → place_in b at ≡ place_in a at) →
-    (r : Result ℕ Fault) (offset n : ℕ) (write : Bool) →
-    places_at b r offset n write ≡ places_at a r offset n write
+    (r : Result ℕ Fault) (offset n : ℕ) (write : Bool) → places_at b r offset n write ≡ places_at a r offset n write
 same_at a b same (Ok base) offset n write = grind (arith, places_from-same)
 same_at a b same (Err fault) offset n write = refl
 

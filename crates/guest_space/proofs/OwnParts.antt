@@ -69,8 +69,7 @@ unfolding world_of
 width_world b budget mode regs vif width other = refl
 
 pub changed_regs : (b : List ℕ) (budget : ℕ) (mode : Mode) (regs : Regs) (vif : Bool) (width : Option Width) (f : Regs → Regs)
-    (v : MachineView) →
-    record { world = world_of b budget mode regs vif width; bytes = b } ≡ v →
+    (v : MachineView) → record { world = world_of b budget mode regs vif width; bytes = b } ≡ v →
     record { world = world_of b budget mode (f regs) vif width; bytes = b } ≡ with_registers (f v.world.regs) v
 unfolding world_of
 changed_regs b budget mode regs vif width f v is = rw (← is) refl

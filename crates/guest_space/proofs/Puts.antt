@@ -18,14 +18,12 @@ pub can_write_there : (w : World) (lin : ℕ) → may_touch (place_in w.blocks l
 can_write_there w lin may = record { at = lin; is = refl; may = may }
 
 pub put_machine : (k : Processor) (v : MachineView) (lin p x : ℕ) → IsMachine k v → TouchesAt v.bytes (place_in v.world.blocks lin) true p →
-    x < 0x100 →
-    IsMachine k (record { world = with_byte_of v.world (place_in v.world.blocks lin) x; bytes = slice_set v.bytes p x })
+    x < 0x100 → IsMachine k (record { world = with_byte_of v.world (place_in v.world.blocks lin) x; bytes = slice_set v.bytes p x })
 put_machine k v lin p x m touches small =
     rw touches.address (written_machine k v (place_in v.world.blocks lin) x m (can_write_there v.world lin touches.may) small)
 
 pub put_is : (k : Processor) (v : MachineView) (lin p x : ℕ) → IsMachine k v → TouchesAt v.bytes (place_in v.world.blocks lin) true p →
-    x < 0x100 →
-    record { world = held_world k (slice_set v.bytes p x); bytes = slice_set v.bytes p x }
+    x < 0x100 → record { world = held_world k (slice_set v.bytes p x); bytes = slice_set v.bytes p x }
     ≡ with_places v (place_in v.world.blocks lin ∷ []) (x ∷ [])
 put_is k v lin p x m touches small =
     ap (λ (w : World). record { world = w; bytes = slice_set v.bytes p x }) (sym (put_machine k v lin p x m touches small).is)
@@ -34,8 +32,7 @@ put_is k v lin p x m touches small =
 
 -- a run of bytes whose places lie one after another
 pub put_run : (k : Processor) (v : MachineView) (places : List Place) (bytes : List ℕ) (p : ℕ) → IsMachine k v →
-    CanWriteAll v.world places →
-    AllBytes bytes → length bytes ≡ length places →
+    CanWriteAll v.world places → AllBytes bytes → length bytes ≡ length places →
     ((i : ℕ) → i < length places → p + i ≡ address_of v.bytes (slice_index_or places i Nothing)) →
     put v.bytes p bytes ≡ with_bytes_at v.bytes places bytes
 put_run k v [] [] p m can small size stands = refl
@@ -69,8 +66,7 @@ store_machine k v lin n p bytes m small room ends size all =
     (can_write_run v.world lin n (run_all k v lin n p true m small room ends)) all
 
 pub store_bytes : (k : Processor) (v : MachineView) (lin n p : ℕ) (bytes : List ℕ) → IsMachine k v → lin < 2 ^ 32 →
-    lin % PAGE_SIZE + n ≤ PAGE_SIZE →
-    translated v lin true ≡ Ok p → length bytes ≡ n → AllBytes bytes →
+    lin % PAGE_SIZE + n ≤ PAGE_SIZE → translated v lin true ≡ Ok p → length bytes ≡ n → AllBytes bytes →
     put v.bytes p bytes ≡ (with_places v (places_from v.world.blocks lin n) bytes).bytes
 store_bytes k v lin n p bytes m small room ends size all =
     put_run k v (places_from v.world.blocks lin n) bytes p m (can_write_run v.world lin n (run_all k v lin n p true m small room ends)) all
@@ -79,8 +75,7 @@ store_bytes k v lin n p bytes m small room ends size all =
 
 -- the memory after it
 pub store_opened : (k : Processor) (v : MachineView) (lin n p : ℕ) (bytes : List ℕ) → IsMachine k v → lin < 2 ^ 32 →
-    lin % PAGE_SIZE + n ≤ PAGE_SIZE →
-    translated v lin true ≡ Ok p → length bytes ≡ n → AllBytes bytes →
+    lin % PAGE_SIZE + n ≤ PAGE_SIZE → translated v lin true ≡ Ok p → length bytes ≡ n → AllBytes bytes →
     IsMachine k (record { world = held_world k (put v.bytes p bytes); bytes = put v.bytes p bytes })
 store_opened k v lin n p bytes m small room ends size all =
     let after = store_machine k v lin n p bytes m small room ends size all in
@@ -88,8 +83,7 @@ store_opened k v lin n p bytes m small room ends size all =
     (record { holds = after.holds; is = refl; sound = rw (← after.is) after.sound })
 
 pub store_is : (k : Processor) (v : MachineView) (lin n p : ℕ) (bytes : List ℕ) → IsMachine k v → lin < 2 ^ 32 →
-    lin % PAGE_SIZE + n ≤ PAGE_SIZE →
-    translated v lin true ≡ Ok p → length bytes ≡ n → AllBytes bytes →
+    lin % PAGE_SIZE + n ≤ PAGE_SIZE → translated v lin true ≡ Ok p → length bytes ≡ n → AllBytes bytes →
     record { world = held_world k (put v.bytes p bytes); bytes = put v.bytes p bytes }
     ≡ with_places v (places_from v.world.blocks lin n) bytes
 store_is k v lin n p bytes m small room ends size all =

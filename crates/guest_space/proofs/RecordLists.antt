@@ -154,8 +154,7 @@ abbrev pub with_row : List ℕ → ℕ → List ℕ → List ℕ
 with_row part place xs = put part (record_size * place) xs
 
 row_inside : (part : List ℕ) (place : ℕ) (xs : List ℕ) → length part ≡ PAGE_SIZE * RECORD_FRAMES → place < GREATEST_DEPTH →
-    length xs ≡ record_size → (i : ℕ) → i < record_size →
-    get_or (with_row part place xs) (record_size * place + i) 0 ≡ get_or xs i 0
+    length xs ≡ record_size → (i : ℕ) → i < record_size → get_or (with_row part place xs) (record_size * place + i) 0 ≡ get_or xs i 0
 row_inside part place xs size small long i within = grind (arith, put_within)
 
 row_below : (part : List ℕ) (place : ℕ) (xs : List ℕ) (k i : ℕ) → k < place → i < record_size →
@@ -167,8 +166,7 @@ below_read : (part : List ℕ) (place : ℕ) (xs : List ℕ) (k : ℕ) → k < p
 below_read part place xs k below = grind (arith, row_below, same_record)
 
 row_read : (part : List ℕ) (place : ℕ) (xs : List ℕ) → length part ≡ PAGE_SIZE * RECORD_FRAMES → place < GREATEST_DEPTH →
-    length xs ≡ record_size →
-    record_at (with_row part place xs) (record_size * place) ≡ record_at xs 0
+    length xs ≡ record_size → record_at (with_row part place xs) (record_size * place) ≡ record_at xs 0
 row_read part place xs size small long = grind (arith, row_inside, same_record, zero-add)
 
 abbrev with_last : List Record → Record → List Record
@@ -182,8 +180,7 @@ last_or_before : (place n : ℕ) → place < n + 1 → (place < n) ⊎ (place �
 last_or_before place n small = grind (arith, cases_lt)
 
 pub one_more : (part : List ℕ) (rs : List Record) (xs : List ℕ) → length part ≡ PAGE_SIZE * RECORD_FRAMES → IsRecordPart part rs →
-    length rs < GREATEST_DEPTH →
-    length xs ≡ record_size → record_bytes (record_at xs 0) ≡ xs →
+    length rs < GREATEST_DEPTH → length xs ≡ record_size → record_bytes (record_at xs 0) ≡ xs →
     IsRecordPart (with_row part (length rs) xs) (rs ++ record_at xs 0 ∷ [])
 one_more part rs xs size h room long exact =
     grind (arith, below_read, get_or_append_left, get_or_at, last_or_before, length-with_last, put_above, row_below, row_inside, row_read)

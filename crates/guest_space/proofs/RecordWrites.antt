@@ -30,8 +30,7 @@ row_has b budget place xs size small long =
 
 -- the row of a record written, where the frame then holds these records
 pub row_holds : (b : List ℕ) (budget : ℕ) → Holds b budget → (place : ℕ) (xs : List ℕ) (rs : List Record) → place < GREATEST_DEPTH →
-    length xs ≡ record_size →
-    IsRecordPart (put (records_part b) (record_size * place) xs) rs → Holds (put b (record_place place) xs) budget
+    length xs ≡ record_size → IsRecordPart (put (records_part b) (record_size * place) xs) rs → Holds (put b (record_place place) xs) budget
 row_holds b budget holds place xs rs small long part =
     holds_by (put b (record_place place) xs) budget _ (row_has b budget place xs holds.size small long) holds.most
     (holds_with_records (parts_of b budget) budget (put (records_part b) (record_size * place) xs)
@@ -74,9 +73,8 @@ abbrev a_view : World → List ℕ → MachineView
 a_view w b = record { world = w; bytes = b }
 
 row_after : (m : Inside) (v : MachineView) → view_of m ≡ v → IsWhole m → v.world.width ≢ None →
-    (place : ℕ) (xs : List ℕ) (rs : List Record) → place < GREATEST_DEPTH →
-    length xs ≡ record_size → IsRecordPart (put (records_part m.ram) (record_size * place) xs) rs → (c : List ℕ) →
-    c ≡ put m.ram (record_place place) xs →
+    (place : ℕ) (xs : List ℕ) (rs : List Record) → place < GREATEST_DEPTH → length xs ≡ record_size →
+    IsRecordPart (put (records_part m.ram) (record_size * place) xs) rs → (c : List ℕ) → c ≡ put m.ram (record_place place) xs →
     RowAfter m c (a_view (record v.world { calls = rs }) (put v.bytes (record_place place) xs))
 row_after m v is whole some place xs rs small long part c e =
     let world = row_world m.ram m.pages whole.0 place xs rs small long part m.mode m.regs m.vif m.width
@@ -94,9 +92,8 @@ counted_place : (m : Inside) (v : MachineView) (is : view_of m ≡ v) (whole : I
 counted_place m v is whole n count = count ∙ count_of_part (records_part m.ram) v.world.calls (part_of (processor_of m) m.ram v is whole.0)
 
 pub after_put : (m : Inside) (v : MachineView) → view_of m ≡ v → IsWhole m → v.world.width ≢ None → (xs : List ℕ) →
-    length v.world.calls < GREATEST_DEPTH →
-    length xs ≡ record_size → record_bytes (record_at xs 0) ≡ xs → (n : ℕ) → n ≡ record_count (records_part m.ram) → (c : List ℕ) →
-    c ≡ put m.ram (record_place n) xs →
+    length v.world.calls < GREATEST_DEPTH → length xs ≡ record_size → record_bytes (record_at xs 0) ≡ xs → (n : ℕ) →
+    n ≡ record_count (records_part m.ram) → (c : List ℕ) → c ≡ put m.ram (record_place n) xs →
     RowAfter m c (with_record v (record_at xs 0) xs)
 after_put m v is whole some xs room long exact n count c e =
     row_after m v is whole some (length v.world.calls) xs (v.world.calls ++ record_at xs 0 ∷ []) room long
@@ -140,8 +137,7 @@ count_of k b v is holds = sym (count_of_part (records_part b) v.world.calls (par
 
 -- what the bytes of a row say
 pub row_held : (k : Processor) (b : List ℕ) (v : MachineView) → record { world = held_world k b; bytes = b } ≡ v → Holds b k.budget →
-    (place : ℕ) →
-    place < GREATEST_DEPTH → place < length v.world.calls →
+    (place : ℕ) → place < GREATEST_DEPTH → place < length v.world.calls →
     slice_get v.world.calls place ≡ Some (record_at (region b (record_place place) record_size) 0)
 row_held k b v is holds place small held =
     let part = part_of k b v is holds in
@@ -156,8 +152,7 @@ row_first : (b : List ℕ) (place : ℕ) → place < GREATEST_DEPTH →
 row_first b place small = grind (arith, add-zero, at_region, row_kind)
 
 pub row_some : (k : Processor) (b : List ℕ) (v : MachineView) → record { world = held_world k b; bytes = b } ≡ v → Holds b k.budget →
-    (place : ℕ) →
-    place < GREATEST_DEPTH → place < length v.world.calls → get_or (region b (record_place place) record_size) 0 0 ≢ 0
+    (place : ℕ) → place < GREATEST_DEPTH → place < length v.world.calls → get_or (region b (record_place place) record_size) 0 0 ≢ 0
 row_some k b v is holds place small held e =
     let part = part_of k b v is holds in
     let d = record_at b 0 in
@@ -165,8 +160,7 @@ row_some k b v is holds place small held e =
     ∙ ap (λ (j : ℕ). get_or (records_part b) j 0) (add-zero (record_size * place)) ∙ sym (row_first b place small) ∙ e)
 
 pub row_none : (k : Processor) (b : List ℕ) (v : MachineView) → record { world = held_world k b; bytes = b } ≡ v → Holds b k.budget →
-    (place : ℕ) →
-    place < GREATEST_DEPTH → length v.world.calls ≤ place → get_or (region b (record_place place) record_size) 0 0 ≡ 0
+    (place : ℕ) → place < GREATEST_DEPTH → length v.world.calls ≤ place → get_or (region b (record_place place) record_size) 0 0 ≡ 0
 row_none k b v is holds place small free = grind (arith, part_of, row_first)
 
 -- a row that is written after other writes
@@ -174,14 +168,12 @@ beside_row : (row at : ℕ) → ¬ IsInRow row at → (record_place row + record
 beside_row row at out = grind (arith, cases_lt)
 
 row_addresses : (b : List ℕ) (budget row : ℕ) (xs : List ℕ) → HasSize b budget → row < GREATEST_DEPTH → length xs ≡ record_size →
-    (place : Place) →
-    address_of (put b (record_place row) xs) place ≡ address_of b place
+    (place : Place) → address_of (put b (record_place row) xs) place ≡ address_of b place
 row_addresses b budget row xs size small long =
     addresses_of b (put b (record_place row) xs) budget _ (row_has b budget row xs size small long) refl refl
 
 pub only_row : (places : List Place) (b c : List ℕ) (budget row : ℕ) (xs : List ℕ) → OnlyAt places b c → HasSize b budget →
-    row < GREATEST_DEPTH →
-    length xs ≡ record_size → OnlyAtAndRow places row b (put c (record_place row) xs)
+    row < GREATEST_DEPTH → length xs ≡ record_size → OnlyAtAndRow places row b (put c (record_place row) xs)
 only_row places b c budget row xs only size small long =
     let same : HasSize c budget = only.size ∙ size in
     record {

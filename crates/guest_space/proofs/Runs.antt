@@ -79,8 +79,7 @@ access_ends w at n write all = rw (none_forbidden w.blocks at n write all)
 -- the first byte that forbids it
 some_forbidden : (places : List Place) (write : Bool) (i : ℕ) → i < length places →
     ((j : ℕ) → j < i → may_touch (slice_index_or places j Nothing) write ≡ true) →
-    may_touch (slice_index_or places i Nothing) write ≡ false →
-    first_forbidden places write ≡ Some (slice_index_or places i Nothing)
+    may_touch (slice_index_or places i Nothing) write ≡ false → first_forbidden places write ≡ Some (slice_index_or places i Nothing)
 some_forbidden [] write i within before barred = absurd (omega arith)
 some_forbidden (p ∷ places) write zero within before barred = rw barred
 some_forbidden (p ∷ places) write (suc i) within before barred =
@@ -127,13 +126,11 @@ bytes_read w at n bytes size each = grind (arith, at_bytes_of, length-bytes_of, 
 
 -- a run in one page is the region where the translation of its first byte ends
 pub run_all : (k : Processor) (v : MachineView) (lin n p : ℕ) (write : Bool) → IsMachine k v → lin < 2 ^ 32 →
-    lin % PAGE_SIZE + n ≤ PAGE_SIZE →
-    translated v lin write ≡ Ok p → AllTouch v.world.blocks lin n write
+    lin % PAGE_SIZE + n ≤ PAGE_SIZE → translated v lin write ≡ Ok p → AllTouch v.world.blocks lin n write
 run_all k v lin n p write m small room ends i within = (run_touches k v lin i n p write m small room within ends).may
 
 pub run_inside : (k : Processor) (v : MachineView) (lin n p : ℕ) (write : Bool) → IsMachine k v → lin < 2 ^ 32 →
-    lin % PAGE_SIZE + n ≤ PAGE_SIZE →
-    0 < n → translated v lin write ≡ Ok p → p + n ≤ length v.bytes
+    lin % PAGE_SIZE + n ≤ PAGE_SIZE → 0 < n → translated v lin write ≡ Ok p → p + n ≤ length v.bytes
 run_inside k v lin n p write m small room some ends =
     let last = run_touches k v lin (n - 1) n p write m small room (omega arith) ends in
     let stands = stands_there k v (linear (lin + (n - 1))) write m last.may in
@@ -152,8 +149,7 @@ run_bytes k v lin n p m small room some ends =
 -- an access that goes over the end of its page: it ends where each of its parts does
 pub parts_end : (k : Processor) (v : MachineView) (lin n p q : ℕ) (write : Bool) → IsMachine k v → lin < 2 ^ 32 → n ≤ PAGE_SIZE →
     PAGE_SIZE < lin % PAGE_SIZE + n → translated v lin write ≡ Ok p →
-    translated v ((lin + (PAGE_SIZE - lin % PAGE_SIZE)) % 2 ^ 32) write ≡ Ok q →
-    AllTouch v.world.blocks lin n write
+    translated v ((lin + (PAGE_SIZE - lin % PAGE_SIZE)) % 2 ^ 32) write ≡ Ok q → AllTouch v.world.blocks lin n write
 parts_end k v lin n p q write m small few over ends later i within = elim (cases_lt i (PAGE_SIZE - lin % PAGE_SIZE)) [
   | inl first ↦ run_all k v lin (PAGE_SIZE - lin % PAGE_SIZE) p write m small (omega arith) ends i first
   | inr second ↦ (
@@ -175,8 +171,7 @@ first_part_fails v lin n write f small some fails =
 
 pub second_part_fails : (k : Processor) (v : MachineView) (lin n p : ℕ) (write : Bool) (f : Fault) → IsMachine k v → lin < 2 ^ 32 →
     PAGE_SIZE < lin % PAGE_SIZE + n → translated v lin write ≡ Ok p →
-    translated v ((lin + (PAGE_SIZE - lin % PAGE_SIZE)) % 2 ^ 32) write ≡ Err f →
-    linear_access v.world lin n write ≡ Err f
+    translated v ((lin + (PAGE_SIZE - lin % PAGE_SIZE)) % 2 ^ 32) write ≡ Err f → linear_access v.world lin n write ≡ Err f
 second_part_fails k v lin n p write f m small over ends fails =
     access_fails v.world lin n (PAGE_SIZE - lin % PAGE_SIZE) write f (omega arith)
     (run_all k v lin (PAGE_SIZE - lin % PAGE_SIZE) p write m small (omega arith) ends)

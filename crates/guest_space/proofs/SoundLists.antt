@@ -71,8 +71,7 @@ sound_lists : (w : World) (interrupts exceptions : List FarPtr) (callbacks : Lis
 sound_lists w interrupts exceptions callbacks pageable calls s int exc back page few same_callbacks same_calls = grind (arith, keeps_width)
 
 pub IsSound-vectors : (w : World) (interrupts exceptions : List FarPtr) (pageable : List Bool) → IsSound w →
-    length interrupts ≡ INTERRUPT_VECTORS →
-    length exceptions ≡ EXCEPTION_VECTORS → length pageable ≡ DOS_VIEW_PAGES →
+    length interrupts ≡ INTERRUPT_VECTORS → length exceptions ≡ EXCEPTION_VECTORS → length pageable ≡ DOS_VIEW_PAGES →
     IsSound (record w { interrupt_vectors = interrupts; exception_vectors = exceptions; pageable = pageable })
 IsSound-vectors w interrupts exceptions pageable s int exc page = grind (arith, sound_lists)
 

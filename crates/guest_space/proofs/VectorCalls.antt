@@ -87,8 +87,7 @@ vectors_after : (m : Inside) → IsWhole m →
 vectors_after m whole c interrupts exceptions callbacks pageable ch sound = grind (arith, after_call, view_of, with_vectors)
 
 pub set_interrupt : (m : Inside) (v : MachineView) → view_of m ≡ v → IsWhole m → (n : ℕ) (p : FarPtr) → n < INTERRUPT_VECTORS →
-    (c : List ℕ) →
-    c ≡ with_vector m.ram (VECTOR_SIZE * n) p →
+    (c : List ℕ) → c ≡ with_vector m.ram (VECTOR_SIZE * n) p →
     IsAfter m v c (record v.world { interrupt_vectors = slice_set v.world.interrupt_vectors n p })
 set_interrupt m v is whole n p within c e =
     let k = processor_of m in let w = (view_of m).world in let s = whole.1 in
@@ -101,8 +100,7 @@ set_interrupt m v is whole n p within c e =
     s.exception_vectors s.pageable))
 
 pub set_exception : (m : Inside) (v : MachineView) → view_of m ≡ v → IsWhole m → (n : ℕ) (p : FarPtr) → n < EXCEPTION_VECTORS →
-    (c : List ℕ) →
-    c ≡ with_vector m.ram (exceptions_start + VECTOR_SIZE * n) p →
+    (c : List ℕ) → c ≡ with_vector m.ram (exceptions_start + VECTOR_SIZE * n) p →
     IsAfter m v c (record v.world { exception_vectors = slice_set v.world.exception_vectors n p })
 set_exception m v is whole n p within c e =
     let k = processor_of m in let w = (view_of m).world in let s = whole.1 in
@@ -126,8 +124,7 @@ set_callback m v is whole some slot row within c e =
     (IsSound-callbacks w (slice_set w.callbacks slot row) s own (length-set w.callbacks slot row ∙ s.callbacks)))
 
 pub set_pageable : (m : Inside) (v : MachineView) → view_of m ≡ v → IsWhole m → (page : ℕ) (on : Bool) → page < DOS_VIEW_PAGES →
-    (c : List ℕ) →
-    c ≡ with_pageable m.ram page on → IsAfter m v c (record v.world { pageable = slice_set v.world.pageable page on })
+    (c : List ℕ) → c ≡ with_pageable m.ram page on → IsAfter m v c (record v.world { pageable = slice_set v.world.pageable page on })
 set_pageable m v is whole page on within c e =
     let k = processor_of m in let w = (view_of m).world in let s = whole.1 in
     subst (λ (u : MachineView). IsAfter m u c (record u.world { pageable = slice_set u.world.pageable page on })) is

@@ -31,9 +31,8 @@ unfolding translated
 translated_where v lin write p touches = rw touches.may (ap (λ (a : ℕ). Ok a) (sym touches.address))
 
 -- a part of a run is a run
-pub part_of_run : (k : Processor) (v : MachineView) (seg : SegReg) (low n at i m : ℕ) → IsMachine k v → IsRun v seg low n at →
-    i + m ≤ n → 0 < m →
-    IsRun v seg (low + i) m (at + i)
+pub part_of_run : (k : Processor) (v : MachineView) (seg : SegReg) (low n at i m : ℕ) → IsMachine k v → IsRun v seg low n at → i + m ≤ n →
+    0 < m → IsRun v seg (low + i) m (at + i)
 part_of_run k v seg low n at i m machine run within some =
     let lin = linear (run.base + low) in
     let room = run.room in
@@ -110,8 +109,7 @@ run_stored k v seg low n at bytes machine run size small =
 
 -- they move no place, and no address of one
 pub places_keep_addresses : (k : Processor) (v : MachineView) (places : List Place) (bytes : List ℕ) → IsMachine k v →
-    CanWriteAll v.world places →
-    AllBytes bytes → (q : Place) → address_of (with_places v places bytes).bytes q ≡ address_of v.bytes q
+    CanWriteAll v.world places → AllBytes bytes → (q : Place) → address_of (with_places v places bytes).bytes q ≡ address_of v.bytes q
 places_keep_addresses k v [] bytes m can small q = ap (λ (u : MachineView). address_of u.bytes q) (with_places_none v bytes)
 places_keep_addresses k v (p ∷ places) [] m can small q = ap (λ (u : MachineView). address_of u.bytes q) (with_places_short v (p ∷ places))
 places_keep_addresses k v (p ∷ places) (x ∷ bytes) m can small q =
@@ -151,15 +149,13 @@ run_kept k v seg low n at bytes machine run size small s offset m address other 
 
 -- a write is its bytes stored
 pub written_by_bytes : (v new : MachineView) (x : Write) (n : ℕ) (bytes : List ℕ) → byte_count x.width ≡ n →
-    number_bytes x.width x.value ≡ bytes →
-    new ≡ after_store v x.seg x.off n bytes → new ≡ after_write v x
+    number_bytes x.width x.value ≡ bytes → new ≡ after_store v x.seg x.off n bytes → new ≡ after_write v x
 unfolding after_write
 written_by_bytes v new x n bytes count is e = grind arith
 
 -- what may be written may be read
 base_for_read : (mode : Mode) (r : Regs) (rows : List Row) (seg : SegReg) (offset n base : ℕ) →
-    segment_base mode r rows seg offset n true ≡ Ok base →
-    segment_base mode r rows seg offset n false ≡ Ok base
+    segment_base mode r rows seg offset n true ≡ Ok base → segment_base mode r rows seg offset n false ≡ Ok base
 unfolding segment_base
 base_for_read Real r rows seg offset n base e = e
 base_for_read Protected r rows seg offset n base e = protected_read rows seg (selector r seg) offset n base e
@@ -191,8 +187,7 @@ read_of_run k v seg low n at machine run some =
     ∙ loaded_linear v.world seg low n run.base (base_for_read v.world.mode v.world.regs v.world.descriptors seg low n run.base run.allowed))
 
 -- a part of a run, as it is read
-pub part_is_read : (k : Processor) (v : MachineView) (seg : SegReg) (low n at i m : ℕ) → IsMachine k v → IsRun v seg low n at →
-    i + m ≤ n → 0 < m →
-    read_result v.world seg (low + i) m ≡ Ok (region v.bytes (at + i) m)
+pub part_is_read : (k : Processor) (v : MachineView) (seg : SegReg) (low n at i m : ℕ) → IsMachine k v → IsRun v seg low n at → i + m ≤ n →
+    0 < m → read_result v.world seg (low + i) m ≡ Ok (region v.bytes (at + i) m)
 part_is_read k v seg low n at i m machine run within some =
     read_of_run k v seg (low + i) m (at + i) machine (part_of_run k v seg low n at i m machine run within some) some

@@ -115,8 +115,7 @@ same_by w u x xs (Some fault) e f later = first_some u x xs fault f ∙ sym (fir
 
 pub first_same : (w u : World) → SameAccess w u → (xs : List Write) → first_write_fault u xs ≡ first_write_fault w xs
 first_same w u same [] = first_none u ∙ sym (first_none w)
-first_same w u same (x ∷ xs) =
-    same_by w u x xs (write_fault w x) refl (write_refusal_same w u same x) (first_same w u same xs)
+first_same w u same (x ∷ xs) = same_by w u x xs (write_fault w x) refl (write_refusal_same w u same x) (first_same w u same xs)
 
 -- what is left from a place in the list on
 pub left_from : (xs : List Write) (i : ℕ) (d : Write) → i < length xs → drop i xs ≡ slice_index_or xs i d ∷ drop (i + 1) xs
@@ -136,8 +135,7 @@ pub left_none : (v new : MachineView) (xs : List Write) (i : ℕ) (d : Write) �
 left_none v new xs i d within e none = grind (arith, first_same, left_from, none_refused, same_written)
 
 pub left_written : (v new w : MachineView) (xs : List Write) (i : ℕ) (d : Write) → i < length xs →
-    new ≡ after_write v (slice_index_or xs i d) →
-    after_writes v (drop i xs) ≡ w → after_writes new (drop (i + 1) xs) ≡ w
+    new ≡ after_write v (slice_index_or xs i d) → after_writes v (drop i xs) ≡ w → after_writes new (drop (i + 1) xs) ≡ w
 left_written v new w xs i d within e left = grind (arith, all_first, left_from)
 
 pub none_left : (v w : MachineView) (xs : List Write) (i : ℕ) → length xs ≤ i → after_writes v (drop i xs) ≡ w → v ≡ w

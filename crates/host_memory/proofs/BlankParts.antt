@@ -100,8 +100,7 @@ offset_byte b budget h n at small within =
     ∙ ap (λ (v : ℕ). slice_index (dword_bytes v) at) (even_half n)
 
 selector_byte : (b : List ℕ) (budget : ℕ) → IsBlank b budget → (n at p : ℕ) → n < INTERRUPT_VECTORS + EXCEPTION_VECTORS → at < 4 →
-    p ≡ VECTOR_SIZE * n + 4 + at →
-    slice_index (vectors_part b) p ≡ slice_index (dword_bytes (selector_of HOST_CODE)) at
+    p ≡ VECTOR_SIZE * n + 4 + at → slice_index (vectors_part b) p ≡ slice_index (dword_bytes (selector_of HOST_CODE)) at
 selector_byte b budget h n at p small within e =
     ap (λ (q : ℕ). slice_index (vectors_part b) q) (let f : p ≡ 4 * (2 * n + 1) + at = omega arith in f)
     ∙ half_byte b budget h (2 * n + 1) at (omega arith) within

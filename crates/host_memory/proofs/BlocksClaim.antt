@@ -65,8 +65,7 @@ outside_rows b budget w has page none = λ place offset within small same.
 
 -- the page tables
 pub tables_claim : (b : List ℕ) (budget : ℕ) (w : World) → Holds b budget → HasRanges (handles_part b) → HasBlocks b budget w →
-    w.budget ≡ budget →
-    HoldsTables b w
+    w.budget ≡ budget → HoldsTables b w
 tables_claim b budget w holds ranges has budgets = record {
   directory = λ index small. part_dword b PAGE_DIRECTORY FIXED_TABLE_FRAMES (PAGE_ENTRY_SIZE * index) (omega arith)
       ∙ holds.fixed.directory index small;
@@ -155,8 +154,7 @@ byte_claim b budget w holds ranges has handle at block e inside =
 
 -- a doubleword of four zeros is 0
 dword_zero : (b : List ℕ) (at : ℕ) → slice_index b at ≡ 0 → slice_index b (at + 1) ≡ 0 → slice_index b (at + 2) ≡ 0 →
-    slice_index b (at + 3) ≡ 0 →
-    dword b at ≡ 0
+    slice_index b (at + 3) ≡ 0 → dword b at ≡ 0
 unfolding dword
 dword_zero b at e f g h = omega arith
 
@@ -195,8 +193,7 @@ row_claim b budget w holds has place within = record {
 
 -- the row of each handle
 pub rows_claim : (b : List ℕ) (budget : ℕ) (w : World) → Holds b budget → HasBlocks b budget w → (handle : ℕ) → 0 < handle →
-    handle ≤ MAX_BLOCKS →
-    IsBlockRow b (frame_place BLOCK_ROWS (BLOCK_ROW_SIZE * (handle - 1))) (block_at w.blocks handle)
+    handle ≤ MAX_BLOCKS → IsBlockRow b (frame_place BLOCK_ROWS (BLOCK_ROW_SIZE * (handle - 1))) (block_at w.blocks handle)
 rows_claim b budget w holds has zero some most = absurd (omega arith)
 rows_claim b budget w holds has (suc place) some most =
     subst (λ (at : ℕ). IsBlockRow b (frame_place BLOCK_ROWS (BLOCK_ROW_SIZE * at)) (block_at w.blocks (suc place)))

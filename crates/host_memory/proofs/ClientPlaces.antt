@@ -29,14 +29,12 @@ pub block_spot : (b : List ℕ) (budget place at : ℕ) → Holds b budget → p
 block_spot b budget place at holds within inside = grind (arith, block_address_is)
 
 pub spot_inside : (b : List ℕ) (budget place at : ℕ) → Holds b budget → place < MAX_BLOCKS →
-    at < PAGE_SIZE * pages_of (handles_part b) place →
-    spot (tables_part b) (first_page_of (handles_part b) place) at < PAGE_SIZE * budget
+    at < PAGE_SIZE * pages_of (handles_part b) place → spot (tables_part b) (first_page_of (handles_part b) place) at < PAGE_SIZE * budget
 spot_inside b budget place at holds within inside = grind arith
 
 -- a byte of the DOS megabyte
 pub dos_stands : (b : List ℕ) (budget : ℕ) (mode : Mode) (regs : Regs) (vif : Bool) (width : Option Width) (at : ℕ) → Holds b budget →
-    at < DOS_SIZE →
-    StandsAt b (world_of b budget mode regs vif width) (Dos at)
+    at < DOS_SIZE → StandsAt b (world_of b budget mode regs vif width) (Dos at)
 unfolding address_of
 dos_stands b budget mode regs vif width at holds below = grind (arith, at_region, dos_is, zero-add)
 
@@ -49,8 +47,7 @@ block_byte b budget mode regs vif width place at within inside = grind (arith, b
 
 -- it is at its address
 pub block_stands : (b : List ℕ) (budget : ℕ) (mode : Mode) (regs : Regs) (vif : Bool) (width : Option Width) (place at : ℕ) →
-    Holds b budget →
-    place < MAX_BLOCKS → at < PAGE_SIZE * pages_of (handles_part b) place →
+    Holds b budget → place < MAX_BLOCKS → at < PAGE_SIZE * pages_of (handles_part b) place →
     StandsAt b (world_of b budget mode regs vif width) (Block (suc place) at)
 block_stands b budget mode regs vif width place at holds within inside = grind (arith, at_region, block_byte, block_spot, spot_inside)
 
@@ -66,8 +63,7 @@ forbidden b w lin write place e barred may = absurd (false≢true (sym barred �
 
 -- in the block region
 region_byte : (b : List ℕ) (budget : ℕ) (mode : Mode) (regs : Regs) (vif : Bool) (width : Option Width) (lin : ℕ) (write : Bool) →
-    Holds b budget →
-    may_touch (place_of (world_of b budget mode regs vif width) lin) write ≡ true →
+    Holds b budget → may_touch (place_of (world_of b budget mode regs vif width) lin) write ≡ true →
     InBlock (handles_part b) (tables_part b) (locks_part b) (budget_part b budget) lin
     ⊎ InNoBlock (handles_part b) (tables_part b) (locks_part b) (budget_part b budget) lin →
     StandsAt b (world_of b budget mode regs vif width) (place_of (world_of b budget mode regs vif width) lin)
@@ -162,8 +158,7 @@ held_other handles tables locks taken frames budget ranges entries place other a
 
 -- so the world's blocks are as they were but for that byte of that block
 pub blocks_written : (handles tables locks taken frames : List ℕ) (budget : ℕ) → HasRanges handles →
-    HasBlockEntries handles tables taken budget →
-    length frames ≡ PAGE_SIZE * budget → (place at v : ℕ) → IsBlockByte handles place at →
+    HasBlockEntries handles tables taken budget → length frames ≡ PAGE_SIZE * budget → (place at v : ℕ) → IsBlockByte handles place at →
     blocks_in handles tables locks (with_spot handles tables frames place at v)
     ≡ with_block_at (blocks_in handles tables locks frames) (suc place)
     (with_block_byte (block_at (blocks_in handles tables locks frames) (suc place)) at v)
@@ -227,8 +222,7 @@ below_rom p at may e = ltb-true at ROM_START (ap (λ (q : Place). may_touch q tr
 
 -- a place that the client holds and may write is one of these
 pub writable : (b : List ℕ) (budget : ℕ) (mode : Mode) (regs : Regs) (vif : Bool) (width : Option Width) (p : Place) →
-    may_touch p true ≡ true →
-    IsHeld (world_of b budget mode regs vif width) p → IsWritable (handles_part b) p
+    may_touch p true ≡ true → IsHeld (world_of b budget mode regs vif width) p → IsWritable (handles_part b) p
 writable b budget mode regs vif width p may held =
     stands_in b budget (world_of b budget mode regs vif width) p ROM_START (blocks_is b budget mode regs vif width)
     (λ at e. below_rom p at may e) held

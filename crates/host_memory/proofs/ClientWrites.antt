@@ -24,8 +24,7 @@ dos_has : (b : List ℕ) (budget : ℕ) → Holds b budget → (at : ℕ) (xs : 
 dos_has b budget holds at xs room = put_part Dos b budget (parts_of b budget) at at xs (own_parts b budget holds) (omega arith) room
 
 pub dos_world : (b : List ℕ) (budget : ℕ) → Holds b budget →
-    (mode : Mode) (regs : Regs) (vif : Bool) (width : Option Width) (at : ℕ) (xs : List ℕ) →
-    at + length xs ≤ DOS_SIZE →
+    (mode : Mode) (regs : Regs) (vif : Bool) (width : Option Width) (at : ℕ) (xs : List ℕ) → at + length xs ≤ DOS_SIZE →
     world_of (put b at xs) budget mode regs vif width
     ≡ record (world_of b budget mode regs vif width) { dos = put (world_of b budget mode regs vif width).dos at xs }
 unfolding world_of
@@ -59,8 +58,7 @@ frames_world b budget holds mode regs vif width address at xs e room blocks is =
     ∙ ap (λ (bs : List (Option MemoryBlock)). record (world_of b budget mode regs vif width) { blocks = bs }) is
 
 pub frames_holds : (b : List ℕ) (budget : ℕ) → Holds b budget → (address at : ℕ) (xs : List ℕ) →
-    address ≡ PAGE_SIZE * BUDGET_FRAMES + at → at + length xs ≤ PAGE_SIZE * budget →
-    ((frame : ℕ) → IsIdle (taken_part b) budget frame →
+    address ≡ PAGE_SIZE * BUDGET_FRAMES + at → at + length xs ≤ PAGE_SIZE * budget → ((frame : ℕ) → IsIdle (taken_part b) budget frame →
     next_frame (put (budget_part b budget) at xs) frame ≡ next_frame (budget_part b budget) frame) → Holds (put b address xs) budget
 frames_holds b budget holds address at xs e room idle =
     holds_by (put b address xs) budget _ (frames_has b budget holds address at xs e room) holds.most
@@ -75,8 +73,7 @@ frames_addresses b budget holds address at xs e room =
 -- one byte of a block
 
 block_world : (b : List ℕ) (budget : ℕ) → Holds b budget → HasRanges (handles_part b) →
-    (mode : Mode) (regs : Regs) (vif : Bool) (width : Option Width) (place at v : ℕ) →
-    IsBlockByte (handles_part b) place at →
+    (mode : Mode) (regs : Regs) (vif : Bool) (width : Option Width) (place at v : ℕ) → IsBlockByte (handles_part b) place at →
     world_of (slice_set b (address_of b (Block (suc place) at)) v) budget mode regs vif width
     ≡ with_byte_of (world_of b budget mode regs vif width) (Block (suc place) at) v
 unfolding world_of
@@ -113,8 +110,7 @@ block_addresses b budget holds place at v byte =
 -- one byte at a place that the client may write
 
 pub store_world : (b : List ℕ) (budget : ℕ) → Holds b budget → HasRanges (handles_part b) →
-    (mode : Mode) (regs : Regs) (vif : Bool) (width : Option Width) (p : Place) (v : ℕ) →
-    IsWritable (handles_part b) p →
+    (mode : Mode) (regs : Regs) (vif : Bool) (width : Option Width) (p : Place) (v : ℕ) → IsWritable (handles_part b) p →
     world_of (slice_set b (address_of b p) v) budget mode regs vif width ≡ with_byte_of (world_of b budget mode regs vif width) p v
 store_world b budget holds ranges mode regs vif width p v at = elim at [
   | inl dos ↦ (let low = dos.low in
@@ -163,9 +159,8 @@ write_holds b budget holds mode regs vif width p v may held =
     store_holds b budget holds p v (writable b budget mode regs vif width p may held)
 
 pub write_addresses : (b : List ℕ) (budget : ℕ) → Holds b budget →
-    (mode : Mode) (regs : Regs) (vif : Bool) (width : Option Width) (p : Place) (v : ℕ) →
-    may_touch p true ≡ true → IsHeld (world_of b budget mode regs vif width) p → (q : Place) →
-    address_of (slice_set b (address_of b p) v) q ≡ address_of b q
+    (mode : Mode) (regs : Regs) (vif : Bool) (width : Option Width) (p : Place) (v : ℕ) → may_touch p true ≡ true →
+    IsHeld (world_of b budget mode regs vif width) p → (q : Place) → address_of (slice_set b (address_of b p) v) q ≡ address_of b q
 write_addresses b budget holds mode regs vif width p v may held =
     store_addresses b budget holds p v (writable b budget mode regs vif width p may held)
 

@@ -49,8 +49,7 @@ low_walk b lin write fixed below =
 
 -- in the 4 MB of the host's window
 pub window_walk : (b : List ℕ) (lin : ℕ) (write : Bool) → HasFixedEntries (fixed_part b) → HOST_WINDOW ≤ lin →
-    lin < HOST_WINDOW + TABLE_SPAN →
-    walked b PAGE_DIRECTORY lin write
+    lin < HOST_WINDOW + TABLE_SPAN → walked b PAGE_DIRECTORY lin write
     ≡ walk_end (supervisor_entry WINDOW_TABLE) (window_entry_at (lin / PAGE_SIZE % TABLE_ENTRIES)) lin write
 window_walk b lin write fixed from to =
     let index : lin / TABLE_SPAN ≡ HOST_WINDOW / TABLE_SPAN = omega arith in
@@ -98,9 +97,7 @@ host_directory b fixed = record {
 
 -- so its page tables are as `map` and `unmap` want them
 pub has_tables : (b : List ℕ) (budget : ℕ) → Holds b budget → HasTables b
-has_tables b budget holds =
-    let size = holds.size in
-    HasTables-host_directory b (host_directory b holds.fixed) (omega arith)
+has_tables b budget holds = let size = holds.size in HasTables-host_directory b (host_directory b holds.fixed) (omega arith)
 
 -- and as the walk wants them
 pub tables_inside : (b : List ℕ) (budget : ℕ) → Holds b budget → TablesInside b PAGE_DIRECTORY

@@ -64,9 +64,8 @@ pub callback_claim : (b : List ℕ) (budget : ℕ) (w : World) → Holds b budge
     ≡ slice_index (callback_bytes (get_or w.callbacks slot None)) at
 callback_claim b budget w holds callbacks slot at within less = grind (arith, at_listed, vectors_byte)
 
-pub pageable_claim : (b : List ℕ) (budget : ℕ) (w : World) → Holds b budget → w.pageable ≡ pageable_in (vectors_part b) →
-    (page : ℕ) → page < DOS_VIEW_PAGES → slice_index b (frame_place VECTORS (pageable_start + page))
-    ≡ cond (get_or w.pageable page false) 1 0
+pub pageable_claim : (b : List ℕ) (budget : ℕ) (w : World) → Holds b budget → w.pageable ≡ pageable_in (vectors_part b) → (page : ℕ) →
+    page < DOS_VIEW_PAGES → slice_index b (frame_place VECTORS (pageable_start + page)) ≡ cond (get_or w.pageable page false) 1 0
 pageable_claim b budget w holds pageable page within = grind (arith, at_listed, bit_is, vectors_byte)
 
 -- the parts of the world that the frame holds
@@ -138,8 +137,7 @@ entry_claim b budget w holds arena place at entry e less =
     ∙ sym (ap (λ (x : DosEntry). slice_index (entry_bytes x) at) item.is)
 
 pub lists_claim : (b : List ℕ) (budget : ℕ) (w : World) → Holds b budget → w.calls ≡ calls_in (records_part b) →
-    w.arena ≡ arena_in (arena_part b) →
-    HoldsLists b w
+    w.arena ≡ arena_in (arena_part b) → HoldsLists b w
 lists_claim b budget w holds calls arena = record {
   records = record_claim b budget w holds calls;
   no_more_records = λ at from less. part_byte b RECORDS RECORD_FRAMES at (omega arith) ∙ holds.records.rest at (omega (arith, depth)) less;

@@ -23,12 +23,10 @@ pub part_byte : (b : List ℕ) (first n at : ℕ) → at < PAGE_SIZE * n →
     slice_index b (frame_place first at) ≡ slice_index (frames_at b first n) at
 part_byte b first n at within = sym (at_region b (PAGE_SIZE * first) (PAGE_SIZE * n) at within)
 
-pub part_word : (b : List ℕ) (first n at : ℕ) → at + 2 ≤ PAGE_SIZE * n →
-    word_of b (frame_place first at) ≡ word_of (frames_at b first n) at
+pub part_word : (b : List ℕ) (first n at : ℕ) → at + 2 ≤ PAGE_SIZE * n → word_of b (frame_place first at) ≡ word_of (frames_at b first n) at
 part_word b first n at within = grind (arith, add_assoc, part_byte)
 
-pub part_dword : (b : List ℕ) (first n at : ℕ) → at + 4 ≤ PAGE_SIZE * n →
-    dword b (frame_place first at) ≡ dword (frames_at b first n) at
+pub part_dword : (b : List ℕ) (first n at : ℕ) → at + 4 ≤ PAGE_SIZE * n → dword b (frame_place first at) ≡ dword (frames_at b first n) at
 part_dword b first n at within = sym (dword-region b (PAGE_SIZE * first) (PAGE_SIZE * n) at within)
 
 -- ---- the list of free frames in the parts of the memory and in its bytes, and what leaves it
@@ -85,8 +83,7 @@ parts_of_list b budget has list =
 -- a write that leaves the head, the taken bytes and the first doublewords of idle frames leaves the list
 pub list_kept : (vectors others taken frames writes : List ℕ) (budget : ℕ) → dword others head_start ≡ dword vectors head_start →
     ((frame : ℕ) → IsIdle taken budget frame → next_frame writes frame ≡ next_frame frames frame) →
-    ListsFreeFrames vectors taken frames budget →
-    ListsFreeFrames others taken writes budget
+    ListsFreeFrames vectors taken frames budget → ListsFreeFrames others taken writes budget
 list_kept vectors others taken frames writes budget head next list = grind (arith, same_free)
 
 -- ---- all parts together

@@ -23,8 +23,7 @@ abbrev with_row : List ℕ → ℕ → Row → List ℕ
 with_row rows index row = put rows (DESCRIPTOR_ROW_SIZE * index) (row_bytes row)
 
 -- another row is beside it
-beside_row : (index other : ℕ) → other ≢ index →
-    (DESCRIPTOR_ROW_SIZE * index + DESCRIPTOR_ROW_SIZE ≤ DESCRIPTOR_ROW_SIZE * other)
+beside_row : (index other : ℕ) → other ≢ index → (DESCRIPTOR_ROW_SIZE * index + DESCRIPTOR_ROW_SIZE ≤ DESCRIPTOR_ROW_SIZE * other)
     ⊎ (DESCRIPTOR_ROW_SIZE * other + DESCRIPTOR_ROW_SIZE ≤ DESCRIPTOR_ROW_SIZE * index)
 beside_row index other ne = grind (arith, cases_order)
 
@@ -42,10 +41,8 @@ row_has b budget holds index row small =
     (omega arith) (omega (arith, length-row_bytes row))
 
 pub row_world : (b : List ℕ) (budget : ℕ) → Holds b budget →
-    (mode : Mode) (regs : Regs) (vif : Bool) (width : Option Width) (index : ℕ) (row : Row) →
-    index < DESCRIPTORS → FitsRow row →
-    world_of (put b (row_address index) (row_bytes row)) budget mode regs vif width
-    ≡ record (world_of b budget mode regs vif
+    (mode : Mode) (regs : Regs) (vif : Bool) (width : Option Width) (index : ℕ) (row : Row) → index < DESCRIPTORS → FitsRow row →
+    world_of (put b (row_address index) (row_bytes row)) budget mode regs vif width ≡ record (world_of b budget mode regs vif
     width) { descriptors = slice_set (world_of b budget mode regs vif width).descriptors index row }
 unfolding world_of
 row_world b budget holds mode regs vif width index row small fits =
@@ -69,8 +66,7 @@ rows_are b budget mode regs vif width =
     ∙ rows_from-region b (PAGE_SIZE * DESCRIPTOR_ROWS) (PAGE_SIZE * DESCRIPTOR_ROW_FRAMES) 0 (omega arith))
 
 pub row_reads : (b : List ℕ) (budget : ℕ) (mode : Mode) (regs : Regs) (vif : Bool) (width : Option Width) (index : ℕ) →
-    index < DESCRIPTORS →
-    row_at b (row_address index) ≡ row_at_index (world_of b budget mode regs vif width).descriptors index
+    index < DESCRIPTORS → row_at b (row_address index) ≡ row_at_index (world_of b budget mode regs vif width).descriptors index
 row_reads b budget mode regs vif width index small =
     sym (at_rows_from b rows_start index None small)
     ∙ ap (λ (rows : List Row). row_at_index rows index) (rows_are b budget mode regs vif width)

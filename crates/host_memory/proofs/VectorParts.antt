@@ -46,8 +46,7 @@ abbrev pub far : ℕ → ℕ → FarPtr
 far sel off = record { sel = sel; off = off }
 
 pub same_parts : (p : FarPtr) (sel off : ℕ) → sel ≡ p.sel → off ≡ p.off → record { sel = sel; off = off } ≡ p
-same_parts p sel off one other =
-    ap (λ (s : ℕ). far s off) one ∙ ap (λ (o : ℕ). far p.sel o) other
+same_parts p sel off one other = ap (λ (s : ℕ). far s off) one ∙ ap (λ (o : ℕ). far p.sel o) other
 
 pub pointer_there : (part : List ℕ) (at : ℕ) (p : FarPtr) → at + 6 ≤ length part → pointer_at (put_pointer part at p) at ≡ p
 pointer_there part at p room = same_parts p _ _ selector offset
@@ -126,16 +125,14 @@ same_exceptions b c same = same_listed EXCEPTION_VECTORS (λ n. pointer_at b (ex
 -- what the callbacks and the bytes after them must keep
 keeps_callbacks : (part other : List ℕ) → KeepsVectors part →
     ((k : ℕ) → callbacks_start ≤ k → k < pageable_start → slice_index other k ≡ slice_index part k) →
-    (slot at : ℕ) → slot < CALLBACKS → at < CALLBACK_SIZE →
-    slice_index other (callbacks_start + (CALLBACK_SIZE * slot + at))
+    (slot at : ℕ) → slot < CALLBACKS → at < CALLBACK_SIZE → slice_index other (callbacks_start + (CALLBACK_SIZE * slot + at))
     ≡ slice_index (callback_bytes (callback_at other (callbacks_start + CALLBACK_SIZE * slot))) at
 keeps_callbacks part other keeps same slot at less small = grind (arith, same_callback)
 
 -- ---- a vector, of one of the two lists
 
 pub keeps_pointer : (part : List ℕ) (v : ℕ) (p : FarPtr) → length part ≡ PAGE_SIZE * VECTOR_FRAMES →
-    v < INTERRUPT_VECTORS + EXCEPTION_VECTORS → KeepsVectors part →
-    KeepsVectors (put_pointer part (VECTOR_SIZE * v) p)
+    v < INTERRUPT_VECTORS + EXCEPTION_VECTORS → KeepsVectors part → KeepsVectors (put_pointer part (VECTOR_SIZE * v) p)
 keeps_pointer part v p long within keeps = grind (arith, keeps_callbacks, pointer_away, vectors)
   where
     vectors : (n at : ℕ) → n < INTERRUPT_VECTORS + EXCEPTION_VECTORS → at < VECTOR_SIZE →
@@ -185,8 +182,7 @@ callback_away part slot row k away =
     put_away part (callbacks_start + CALLBACK_SIZE * slot) (callback_bytes row) k (grind (arith, length-callback_bytes))
 
 callback_within : (part : List ℕ) (slot : ℕ) (row : Option Callback) (i k : ℕ) → length part ≡ PAGE_SIZE * VECTOR_FRAMES →
-    slot < CALLBACKS →
-    i < CALLBACK_SIZE → k ≡ callbacks_start + CALLBACK_SIZE * slot + i →
+    slot < CALLBACKS → i < CALLBACK_SIZE → k ≡ callbacks_start + CALLBACK_SIZE * slot + i →
     slice_index (put_callback part slot row) k ≡ slice_index (callback_bytes row) i
 callback_within part slot row i k long within less e =
     put_within part (callbacks_start + CALLBACK_SIZE * slot) (callback_bytes row) i k (omega (arith, length-callback_bytes row))
@@ -234,8 +230,7 @@ other_callback : (part : List ℕ) (slot : ℕ) (row : Option Callback) (other :
 other_callback part slot row other ne = grind (arith, callback_away, same_callback, slots_apart)
 
 pub keeps_callback : (part : List ℕ) (slot : ℕ) (row : Option Callback) → length part ≡ PAGE_SIZE * VECTOR_FRAMES → slot < CALLBACKS →
-    KeepsVectors part →
-    KeepsVectors (put_callback part slot row)
+    KeepsVectors part → KeepsVectors (put_callback part slot row)
 keeps_callback part slot row long within keeps = record {
   vectors = λ n at small less. callback_away part slot row (VECTOR_SIZE * n + at) (inr (omega arith))
       ∙ keeps.vectors n at small less
@@ -287,8 +282,7 @@ bit_small true = omega arith
 bit_small false = omega arith
 
 pub keeps_pageable : (part : List ℕ) (page : ℕ) (on : Bool) → length part ≡ PAGE_SIZE * VECTOR_FRAMES → page < DOS_VIEW_PAGES →
-    KeepsVectors part →
-    KeepsVectors (put_pageable part page on)
+    KeepsVectors part → KeepsVectors (put_pageable part page on)
 keeps_pageable part page on long within keeps = record {
   vectors = λ n at small less. pageable_away part page on (VECTOR_SIZE * n + at) (λ z. omega arith)
       ∙ keeps.vectors n at small less

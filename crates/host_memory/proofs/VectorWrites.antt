@@ -44,15 +44,13 @@ pub record Lists (part : List ℕ) (interrupts exceptions : List FarPtr) (callba
   pub page : pageable_in part ≡ pageable
 
 pub same_lists : (w : World) (part : List ℕ) (interrupts exceptions : List FarPtr) (callbacks : List (Option Callback))
-    (pageable : List Bool) →
-    Lists part interrupts exceptions callbacks pageable →
+    (pageable : List Bool) → Lists part interrupts exceptions callbacks pageable →
     with_vectors w (interrupt_vectors_in part) (exception_vectors_in part) (callbacks_in part) (pageable_in part)
     ≡ with_vectors w interrupts exceptions callbacks pageable
 same_lists w part interrupts exceptions callbacks pageable l = grind arith
 
 changes : (b c : List ℕ) (budget : ℕ) (part : List ℕ) (interrupts exceptions : List FarPtr) (callbacks : List (Option Callback))
-    (pageable : List Bool) → Holds b budget →
-    HasParts c budget (record (parts_of b budget) { vectors = part }) → KeepsVectors part →
+    (pageable : List Bool) → Holds b budget → HasParts c budget (record (parts_of b budget) { vectors = part }) → KeepsVectors part →
     ((k : ℕ) → head_start ≤ k → k < head_end → slice_index part k ≡ slice_index (vectors_part b) k) →
     Lists part interrupts exceptions callbacks pageable → ChangesVectors b c budget interrupts exceptions callbacks pageable
 unfolding world_of
@@ -90,8 +88,7 @@ interrupt_changes b budget n p holds within =
     (grind (arith, interrupts_set, pointer_away, same_callbacks, same_exceptions, same_pageable))
 
 keeps_exception : (part : List ℕ) (n : ℕ) (p : FarPtr) → length part ≡ PAGE_SIZE * VECTOR_FRAMES → n < EXCEPTION_VECTORS →
-    KeepsVectors part →
-    KeepsVectors (put_pointer part (exceptions_start + VECTOR_SIZE * n) p)
+    KeepsVectors part → KeepsVectors (put_pointer part (exceptions_start + VECTOR_SIZE * n) p)
 keeps_exception part n p long within keeps =
     let at : VECTOR_SIZE * (INTERRUPT_VECTORS + n) ≡ exceptions_start + VECTOR_SIZE * n = omega arith in
     subst (λ (k : ℕ). KeepsVectors (put_pointer part k p)) at (keeps_pointer part (INTERRUPT_VECTORS + n) p long (omega arith) keeps)

@@ -48,8 +48,7 @@ rom_law b blocks lin false from to =
 
 -- below 4 MB
 pub low_law : (b : List ℕ) (blocks : List (Option MemoryBlock)) (lin : ℕ) (write : Bool) → HasFixedEntries (fixed_part b) →
-    lin < BLOCK_REGION →
-    walked b PAGE_DIRECTORY lin write ≡ walk_result b (place_in blocks lin) write
+    lin < BLOCK_REGION → walked b PAGE_DIRECTORY lin write ≡ walk_result b (place_in blocks lin) write
 low_law b blocks lin write fixed below = low_walk b lin write fixed below ∙ elim (cases_lt (lin / PAGE_SIZE) (ROM_START / PAGE_SIZE)) [
   | inl writable ↦ rw (lt-ltb (lin / PAGE_SIZE) (ROM_START / PAGE_SIZE) writable)
       (writable_law b blocks lin (lin / PAGE_SIZE) write (omega arith) (omega arith) (omega arith))
@@ -103,11 +102,9 @@ in_pages handles place at lin ranged within some offset inside = grind arith
 -- at a byte of a block
 pub block_law : (b : List ℕ) (budget lin : ℕ) (write : Bool) → HasFixedEntries (fixed_part b) → HasRanges (handles_part b) →
     HasBlockEntries (handles_part b) (tables_part b) (taken_part b) budget → BLOCK_REGION ≤ lin → lin < BLOCK_REGION_END →
-    InBlock (handles_part b) (tables_part b) (locks_part b) (budget_part b budget) lin →
-    walked b PAGE_DIRECTORY lin write
+    InBlock (handles_part b) (tables_part b) (locks_part b) (budget_part b budget) lin → walked b PAGE_DIRECTORY lin write
     ≡ walk_result b (place_in (blocks_in (handles_part b) (tables_part b) (locks_part b) (budget_part b budget)) lin) write
-block_law b budget lin write fixed ranged entries from to found =
-    grind (arith, ends_in_page, in_pages, region_walk, to_place, told_block)
+block_law b budget lin write fixed ranged entries from to found = grind (arith, ends_in_page, in_pages, region_walk, to_place, told_block)
 
 -- a page that no row covers belongs to no block
 pub outside_rows : (handles : List ℕ) (lin : ℕ) → HasRanges handles → BLOCK_REGION ≤ lin → ((place : ℕ) → InRow handles place lin → ⊥) →
@@ -117,8 +114,7 @@ outside_rows handles lin ranged from none place offset within inside e = grind a
 -- and where no block is
 pub no_block_law : (b : List ℕ) (budget lin : ℕ) (write : Bool) → HasFixedEntries (fixed_part b) → HasRanges (handles_part b) →
     HasBlockEntries (handles_part b) (tables_part b) (taken_part b) budget → BLOCK_REGION ≤ lin → lin < BLOCK_REGION_END →
-    InNoBlock (handles_part b) (tables_part b) (locks_part b) (budget_part b budget) lin →
-    walked b PAGE_DIRECTORY lin write
+    InNoBlock (handles_part b) (tables_part b) (locks_part b) (budget_part b budget) lin → walked b PAGE_DIRECTORY lin write
     ≡ walk_result b (place_in (blocks_in (handles_part b) (tables_part b) (locks_part b) (budget_part b budget)) lin) write
 no_block_law b budget lin write fixed ranged entries from to missed =
     grind (arith, finds_no_page, outside_rows, region_walk, to_place, told_nothing)

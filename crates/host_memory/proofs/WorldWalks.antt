@@ -152,9 +152,8 @@ byte_address : (b : List ℕ) (w : World) (lin : ℕ) (byte : HasBlockByte w lin
 byte_address b w lin byte holds = grind (arith, base_in_row, block_address_is, entry_is, page_of_byte)
 
 -- a walk to a byte of a block
-block_walk : (b : List ℕ) (w : World) (lin : ℕ) (write : Bool) → HoldsTables b w → HoldsBlocks b w →
-    BLOCK_REGION ≤ lin → lin < BLOCK_REGION_END → HasBlockByte w lin →
-    walked b PAGE_DIRECTORY lin write ≡ walk_result b (place_of w lin) write
+block_walk : (b : List ℕ) (w : World) (lin : ℕ) (write : Bool) → HoldsTables b w → HoldsBlocks b w → BLOCK_REGION ≤ lin →
+    lin < BLOCK_REGION_END → HasBlockByte w lin → walked b PAGE_DIRECTORY lin write ≡ walk_result b (place_of w lin) write
 block_walk b w lin write tables blocks from to byte =
     let is = page_of_byte w lin byte in
     let named = tables.named (suc byte.place) (byte.at / PAGE_SIZE) byte.block byte.there is.page in

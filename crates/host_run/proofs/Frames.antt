@@ -97,9 +97,8 @@ pub popped_deep : (h : HostWorld) (n : ℕ) → is_exit_call h.machine n ≡ fal
 popped_deep h n exit presence other deep can = deep_by h n (world_after_iret h.machine) refl exit presence other deep can
 
 -- a service that leaves the mode and the place of the stack leaves a frame that can be popped one
-pub still_popped : ((w : World) → IsSound w → w.mode ≡ Real → is_ok (world_after_iret w) ≡ frame_fits w.regs.esp) →
-    (w u : World) → IsSound w → IsSound u → w.mode ≡ Real → HasSameStack w u → is_ok (world_after_iret w) ≡ true →
-    is_ok (world_after_iret u) ≡ true
+pub still_popped : ((w : World) → IsSound w → w.mode ≡ Real → is_ok (world_after_iret w) ≡ frame_fits w.regs.esp) → (w u : World) →
+    IsSound w → IsSound u → w.mode ≡ Real → HasSameStack w u → is_ok (world_after_iret w) ≡ true → is_ok (world_after_iret u) ≡ true
 still_popped fits w u before after real same can =
     fits u after (same.mode ∙ real) ∙ ap frame_fits same.pointer ∙ sym (fits w before real) ∙ can
 

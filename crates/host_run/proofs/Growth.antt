@@ -106,8 +106,7 @@ entry_trap_grows h = entry_grows h (entry h.machine)
 
 -- ---- the default vectors of protected mode
 
-begun_grows : (h : HostWorld) (ax : ℕ) (w : World) (call : Call) (s : Served) (c : Carry) →
-    Grows h (if is_set c then after_service h ax s
+begun_grows : (h : HostWorld) (ax : ℕ) (w : World) (call : Call) (s : Served) (c : Carry) → Grows h (if is_set c then after_service h ax s
     else goes_on_with (with_trace_line (lines.Int31 ax Clear) h) (call_enter_line w call s.world) s.world)
 begun_grows h ax w call s Clear = still h _ refl refl
 begun_grows h ax w call s Set = still h _ refl refl
@@ -252,5 +251,4 @@ bounded_console w (Some _) = refl
 bounded_console w None = refl
 
 pub run_console : (w : HostWorld) (m n : ℕ) → m ≤ n → Extends (turns w m).console (run w n).console
-run_console w m n le =
-    subst (Extends (turns w m).console) (sym (bounded_console (turns w n) (turns w n).exit)) (turns_console w m n le)
+run_console w m n le = subst (Extends (turns w m).console) (sym (bounded_console (turns w n) (turns w n).exit)) (turns_console w m n le)

@@ -101,8 +101,7 @@ takes_items w bits p e =
     }
 
 resumed_by : (v u : MachineView) (p : Pending) → TakesItems v.world (frame_bits v.world) p →
-    result_of_exception_pop (after_commit v p) ≡ Ok u →
-    HasResumed v.world u.world
+    result_of_exception_pop (after_commit v p) ≡ Ok u → HasResumed v.world u.world
 resumed_by v u p t e =
     let none : p.writes ≡ [] = ap (λ (x : Pending). x.writes) t.is in
     let is : Ok (after_pop (with_state p.regs p.vif v)) ≡ Ok u = ap result_of_exception_pop (sym (settled_is v p none)) ∙ e in
@@ -130,8 +129,7 @@ resumed_of v u (Err g) is e = absurd cc
 
 resumed_where : (exception : Bool) (v u : MachineView) →
     (if exception then result_of_exception_pop (after_plan v (plan_result v.world (exception_frame_pop v.world (frame_bits v.world))))
-    else Err exits.Stray) ≡ Ok u →
-    HasResumed v.world u.world
+    else Err exits.Stray) ≡ Ok u → HasResumed v.world u.world
 resumed_where true v u e = resumed_of v u (plan_result v.world (exception_frame_pop v.world (frame_bits v.world))) refl e
 resumed_where false v u e = absurd cc
 
@@ -173,8 +171,7 @@ begun_call w u call s e =
     (has_begun w call s (ap (λ (a : Served). a.carry) e))
 
 call_by : (w v x y : HostWorld) (call : Call) (r : Record) → IsSound w.machine → IsSound x.machine → StartsCall w call r v →
-    ReturnsFromCall x call y →
-    x.machine.calls ≡ y.machine.calls ++ r ∷ [] → HandsOverCall w v x y call
+    ReturnsFromCall x call y → x.machine.calls ≡ y.machine.calls ++ r ∷ [] → HandsOverCall w v x y call
 call_by w v x y call r starts ends pushes pops innermost =
     let ended = has_ended x.machine y.machine ends pops.returns in
     record {

@@ -16,8 +16,7 @@ turns_stop w i zero e is = rw add-zero refl
 turns_stop w i (suc k) e is = rw add-suc (ap turn (turns_stop w i k e is) ∙ turn_stops (turns w i) e is)
 
 -- once there is an exit after i turns, so it stays
-pub turns_past : (w : HostWorld) (i n : ℕ) (e : Exit) → i ≤ n → (turns w i).exit ≡ Some e →
-    turns w n ≡ turns w i
+pub turns_past : (w : HostWorld) (i n : ℕ) (e : Exit) → i ≤ n → (turns w i).exit ≡ Some e → turns w n ≡ turns w i
 turns_past w i n e le is = let split : i + (n - i) ≡ n = omega arith in
     subst (λ m. turns w m ≡ turns w i) split (turns_stop w i (n - i) e is)
 

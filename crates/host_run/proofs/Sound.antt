@@ -81,8 +81,7 @@ abbrev reached : (w : HostWorld) → IsSoundHost w → HasKeys w → IsReached w
 reached w s keys = record { machine = s.machine; keys = keys }
 
 pub host_turn_sound : (w : HostWorld) → IsSoundHost w → HasKeys w → IsSoundHost (turn w)
-host_turn_sound w s keys =
-    record { machine = (turn_sound w (reached w s keys)).machine; lines = turn_lines w (reached w s keys) s.lines }
+host_turn_sound w s keys = record { machine = (turn_sound w (reached w s keys)).machine; lines = turn_lines w (reached w s keys) s.lines }
 
 pub host_turns_sound : (w : HostWorld) → IsSoundHost w → HasKeys w → (n : ℕ) → IsSoundHost (turns w n)
 host_turns_sound w s keys n =

@@ -70,8 +70,7 @@ pub kept : (f : Footprint) (b c : List ℕ) → c ≡ b → ChangesOnly f b c
 kept f b c same = subst (λ (x : List ℕ). ChangesOnly f b x) (sym same) (unchanged f b)
 
 pub changes_or_ends : (old new : HostView) (r : Result (Unit {0}) Exit) (o : Outcome) → HasLaws (machine_view old) → ComesTo old new r o →
-    OnOk r (client_turn (machine_view old) ≡ Ok (machine_view new)) →
-    ChangesOnly (client_footprint old.world.machine) old.bytes new.bytes
+    OnOk r (client_turn (machine_view old) ≡ Ok (machine_view new)) → ChangesOnly (client_footprint old.world.machine) old.bytes new.bytes
 changes_or_ends old new (Ok x) o laws comes is = client_changes (machine_view old) (machine_view new) laws is
 changes_or_ends old new (Err exit) o laws comes is = kept (client_footprint old.world.machine) old.bytes new.bytes comes.2.1
 
@@ -135,8 +134,7 @@ written_by_turn law w u none free is =
     (λ v. law (view_without_bytes m) v) is)
 
 pub pushed_by_turn : ((v u : MachineView) (number len : ℕ) → client_step v ≡ Err (Soft number len) →
-    software_interrupt v number len ≡ Ok u →
-    AreIn (step_touches v.world) (interrupt_places v.world len)) →
+    software_interrupt v number len ≡ Ok u → AreIn (step_touches v.world) (interrupt_places v.world len)) →
     (w : HostWorld) (u : World) (number len : ℕ) → w.exit ≡ None → current_trap w.machine ≡ NoTrap →
     world_step w.machine ≡ Err (Soft number len) →
     world_interrupt w.machine number len ≡ Ok u → AreIn (touched_by_turn w) (interrupt_places w.machine len)

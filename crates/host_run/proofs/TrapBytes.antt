@@ -109,8 +109,7 @@ real_base_was true f first base e = cc
 real_base_was false f first base e = absurd cc
 
 row_base_was : (sel off base : ℕ) (row : Row) (rows : List Row) → row_of_selector rows sel ≡ row →
-    base_in_row Cs sel row off 1 false ≡ Ok base →
-    first_byte Protected rows sel ≡ base
+    base_in_row Cs sel row off 1 false ≡ Ok base → first_byte Protected rows sel ≡ base
 row_base_was sel off base None rows is e = absurd cc
 row_base_was sel off base (Some row) rows is e =
     let found = past (not (is_inside row.0 off 1)) _ (Ok row.0.base) base
@@ -122,8 +121,7 @@ base_was : (mode : Mode) (r : Regs) (rows : List Row) (off base : ℕ) → segme
     first_byte mode rows r.cs ≡ base
 unfolding segment_base
 base_was Real r rows off base e = real_base_was (nat_le (off + 1) SEGMENT_SIZE) _ _ base e
-base_was Protected r rows off base e =
-    row_base_was r.cs off base (row_of_selector rows r.cs) rows refl (past (is_null r.cs) _ _ base e)
+base_was Protected r rows off base e = row_base_was r.cs off base (row_of_selector rows r.cs) rows refl (past (is_null r.cs) _ _ base e)
 
 address_was : (mode : Mode) (w : World) (base : ℕ) → first_byte mode w.descriptors w.regs.cs ≡ base → address_in mode w < DOS_SIZE →
     linear ((((base + w.regs.eip) % 2 ^ 32) + 0) % 2 ^ 32) ≡ address_in mode w

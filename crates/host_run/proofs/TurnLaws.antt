@@ -107,8 +107,7 @@ stops h after exit s keys lines leaves = record {
 }
 
 pub stops_same : {source : InterruptSource} (h : HostWorld) (exit : Exit) → IsReached h → TurnKeeps source h (ends h exit)
-stops_same h exit s =
-    stops h h exit s s.keys (omega arith) (record { machine = refl; outside = λ _. (refl, refl) })
+stops_same h exit s = stops h h exit s s.keys (omega arith) (record { machine = refl; outside = λ _. (refl, refl) })
 
 stops_noted : (h : HostWorld) (line : TraceLine) (exit : Exit) → IsReached h → TurnKeeps from_client h (ends (with_trace_line line h) exit)
 stops_noted h line exit s =
@@ -116,8 +115,7 @@ stops_noted h line exit s =
 
 told_keeps : (h : HostWorld) (line : TraceLine) (w : World) → IsReached h → IsNext h.machine w →
     TurnKeeps from_client h (goes_on_with h line w)
-told_keeps h line w s next =
-    goes h (record (with_trace_line line h) { machine = w }) next s.keys (omega arith)
+told_keeps h line w s next = goes h (record (with_trace_line line h) { machine = w }) next s.keys (omega arith)
 
 machine_keeps : {source : InterruptSource} (h : HostWorld) (r : Result World Exit) → IsReached h → IfOk r (IsNext h.machine) →
     TurnKeeps source h (with_machine h r)
@@ -249,13 +247,11 @@ state_call_keeps h s =
 -- other registers with the same segments
 next_regs : (w u : World) (r : Regs) → IsNext w u → r.es ≡ u.regs.es → r.cs ≡ u.regs.cs → r.ss ≡ u.regs.ss → r.ds ≡ u.regs.ds →
     r.fs ≡ u.regs.fs → r.gs ≡ u.regs.gs → IsNext w (record u { regs = r })
-next_regs w u r next es cs ss ds fs gs =
-    record { sound = with_regs_sound u r next.sound es cs ss ds fs gs; calls = next.calls }
+next_regs w u r next es cs ss ds fs gs = record { sound = with_regs_sound u r next.sound es cs ss ds fs gs; calls = next.calls }
 
 -- a turn that goes on and changes the records, with one or two lines of the trace more
 goes_changed : {source : InterruptSource} (h after : HostWorld) → IsReached h → IsSound after.machine → Stacked source h after →
-    after.keys ≡ h.keys →
-    after.lines ≤ h.lines + 2 → TurnKeeps source h (goes_on after)
+    after.keys ≡ h.keys → after.lines ≤ h.lines + 2 → TurnKeeps source h (goes_on after)
 goes_changed h after s sound stacked keys lines = record {
   sound = sound;
   calls = stacked;
@@ -376,8 +372,7 @@ reflection_by source h n w (Ok v) is s c =
 reflection_by source h n w (Err exit) is s c = stops_same h exit s
 
 protected_keeps : (h : HostWorld) (n : ℕ) (r : Result World Exit) → world_after_iret h.machine ≡ r → IsReached h →
-    h.machine.mode ≡ Protected →
-    TurnKeeps from_client h (after_protected_pop h n r)
+    h.machine.mode ≡ Protected → TurnKeeps from_client h (after_protected_pop h n r)
 unfolding after_protected_call
 protected_keeps h n (Ok w) is s mode =
     let c = is_popped h w s mode is in
@@ -468,8 +463,7 @@ delivered_keeps Real h f s mode =
       sound = sound_world_delivery h.machine u f s.machine e;
       calls = ap (λ (x : World). x.calls) (kept_world_delivery h.machine u f e);
     }))
-delivered_keeps Protected h f s mode =
-    delivery_by h f (world_protected_delivery h.machine f) refl s mode
+delivered_keeps Protected h f s mode = delivery_by h f (world_protected_delivery h.machine f) refl s mode
 
 pub interrupted_keeps : {source : InterruptSource} (h : HostWorld) (r : Result World Fault) → IsReached h → IfOk r (IsNext h.machine) →
     TurnKeeps source h (after_interrupt h r)

@@ -35,8 +35,7 @@ read_is big bytes insn rest are e =
     (f.0, from_readers big insn f.0 (bytes_front f.0 rest (subst AllBytes f.2 are)) f.1, f.2)
 
 -- what the bytes encode is read
-is_read : (big : Bool) (insn : Insn) (front rest : List ℕ) → Encoding big insn front
-    → insn_at big (front ++ rest) ≡ Ok (insn, rest)
+is_read : (big : Bool) (insn : Insn) (front rest : List ℕ) → Encoding big insn front → insn_at big (front ++ rest) ≡ Ok (insn, rest)
 is_read big insn front rest s = (insn_reads big).again insn front rest (to_readers big insn front s)
 
 all_read : (big : Bool) (insn : Insn) (bytes : List ℕ) → Encoding big insn bytes → insn_at big bytes ≡ Ok (insn, [])
@@ -45,11 +44,9 @@ all_read big insn bytes s = ap (insn_at big) (sym (append-nil bytes)) ∙ is_rea
 -- ---- the laws of the grammar
 
 pub one_insn : (big : Bool) (a b : Insn) (bytes : List ℕ) → Encoding big a bytes → Encoding big b bytes → a ≡ b
-one_insn big a b bytes s t =
-    ap (λ (p : Insn × List ℕ). p.0) (ok_is (a, []) (b, []) (sym (all_read big a bytes s) ∙ all_read big b bytes t))
+one_insn big a b bytes s t = ap (λ (p : Insn × List ℕ). p.0) (ok_is (a, []) (b, []) (sym (all_read big a bytes s) ∙ all_read big b bytes t))
 
-pub no_longer : (big : Bool) (a b : Insn) (bytes tail : List ℕ) → Encoding big a bytes → Encoding big b (bytes ++ tail)
-    → tail ≡ []
+pub no_longer : (big : Bool) (a b : Insn) (bytes tail : List ℕ) → Encoding big a bytes → Encoding big b (bytes ++ tail) → tail ≡ []
 no_longer big a b bytes tail s t =
     ap (λ (p : Insn × List ℕ). p.1)
     (ok_is (a, tail) (b, []) (sym (is_read big a bytes tail s) ∙ all_read big b (bytes ++ tail) t))
@@ -89,8 +86,7 @@ more_decoded big bytes are s =
       | inr (inr i) ↦ absurd (ok_not_err (s.0, []) stops.Invalid (sym whole ∙ (insn_reads big).invalid bytes (s.1 ∷ s.2) i))
     ]
 
-cut : (bytes front rest : List ℕ) → bytes ≡ front ++ rest
-    → (take (length front) bytes ≡ front) × (length front ≤ length bytes)
+cut : (bytes front rest : List ℕ) → bytes ≡ front ++ rest → (take (length front) bytes ≡ front) × (length front ≤ length bytes)
 cut bytes front rest e = (rw e (take_at front rest (length front) refl), rw e (omega (arith, length-append front rest)))
 
 pub decoded_whole : (big : Bool) (insn : Insn) (len : ℕ) (bytes : List ℕ) → AllBytes bytes
@@ -149,11 +145,8 @@ invalid_decoded big bytes are nor =
     ]
 
 -- the rest of what was read is no longer than the whole
-pub shorter : (big : Bool) (bytes : List ℕ) (insn : Insn) (rest : List ℕ) → insn_at big bytes ≡ Ok (insn, rest)
-    → length rest ≤ length bytes
-shorter big bytes insn rest e =
-    let f = (insn_reads big).found bytes insn rest e in
-    omega (arith, length-append f.0 rest, ap length f.2)
+pub shorter : (big : Bool) (bytes : List ℕ) (insn : Insn) (rest : List ℕ) → insn_at big bytes ≡ Ok (insn, rest) → length rest ≤ length bytes
+shorter big bytes insn rest e = let f = (insn_reads big).found bytes insn rest e in omega (arith, length-append f.0 rest, ap length f.2)
 
 -- ---- code bytes that agree in the bytes of an instruction
 

@@ -65,13 +65,11 @@ rep_plain None = refl
 
 prefixes_folded : (ps : List ℕ) → folded no_prefixes ps ≡ prefixes_of ps
 unfolding prefixes_of
-prefixes_folded ps =
-    grind (arith, addr_folded, data_folded, else_none, lock_folded, rep_folded, rep_plain, same_prefixes, seg_folded)
+prefixes_folded ps = grind (arith, addr_folded, data_folded, else_none, lock_folded, rep_folded, rep_plain, same_prefixes, seg_folded)
 
 -- ---- the pieces
 
-regroup : (a b c d e f g h : List ℕ)
-    → (a ++ b) ++ ((c ++ (d ++ (e ++ []))) ++ ((f ++ []) ++ ((g ++ []) ++ ((h ++ []) ++ [])))) ≡ a
+regroup : (a b c d e f g h : List ℕ) → (a ++ b) ++ ((c ++ (d ++ (e ++ []))) ++ ((f ++ []) ++ ((g ++ []) ++ ((h ++ []) ++ [])))) ≡ a
     ++ (b ++ (c ++ (d ++ (e ++ (f ++ (g ++ h))))))
 regroup a b c d e f g h = simp (append-nil, append_assoc) refl
 
@@ -97,10 +95,9 @@ to_readers big insn bytes s =
     }
 
 -- the pieces in their order
-glue : (a b c d e f g h bytes x y z w q r n u v k l o f0 g0 h0 t : List ℕ)
-    → bytes ≡ x ++ y → x ≡ a ++ b → y ≡ z ++ w → z ≡ c ++ q → q ≡ d ++ r → r ≡ e ++ n → n ≡ []
-    → w ≡ k ++ v → k ≡ f ++ f0 → f0 ≡ [] → v ≡ l ++ u → l ≡ g ++ g0 → g0 ≡ [] → u ≡ o ++ t → o ≡ h ++ h0 → h0 ≡ [] → t ≡ []
-    → bytes ≡ a ++ (b ++ (c ++ (d ++ (e ++ (f ++ (g ++ h))))))
+glue : (a b c d e f g h bytes x y z w q r n u v k l o f0 g0 h0 t : List ℕ) → bytes ≡ x ++ y → x ≡ a ++ b → y ≡ z ++ w → z ≡ c ++ q →
+    q ≡ d ++ r → r ≡ e ++ n → n ≡ [] → w ≡ k ++ v → k ≡ f ++ f0 → f0 ≡ [] → v ≡ l ++ u → l ≡ g ++ g0 → g0 ≡ [] → u ≡ o ++ t → o ≡ h ++ h0 →
+    h0 ≡ [] → t ≡ [] → bytes ≡ a ++ (b ++ (c ++ (d ++ (e ++ (f ++ (g ++ h))))))
 glue a b c d e f g h bytes x y z w q r n u v k l o f0 g0 h0 t e0 e1 e2 e3 e4 e5 e6 e7 e8 e9 e10 e11 e12 e13 e14 e15 e16 =
     rw (e0, e1, e2, e3, e4, e5, e6, e7, e8, e9, e10, e11, e12, e13, e14, e15, e16) (regroup a b c d e f g h)
 
@@ -115,8 +112,7 @@ same_insn big head address a b c x y z e f g =
     λ i. insn_of head (wide_of big head) (addr32_of big head) (row_with head address.modrm) (e i) (f i) (g i)
 
 -- What the readers' pieces have, the grammar has.
-pub from_readers : (big : Bool) (insn : Insn) (bytes : List ℕ) → AllBytes bytes → EncodesInsn big insn bytes
-    → Encoding big insn bytes
+pub from_readers : (big : Bool) (insn : Insn) (bytes : List ℕ) → AllBytes bytes → EncodesInsn big insn bytes → Encoding big insn bytes
 from_readers big insn bytes are h =
     let head : Head = h.middle in
     let address : Addressing = h.second.middle in

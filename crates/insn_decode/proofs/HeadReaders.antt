@@ -93,8 +93,7 @@ pub record EncodesHead (m : Prefixes) (head : Head) (bytes : List ℕ) : Type 0 
   pub has_row : any_row head ≡ true
   pub whole : bytes ≡ before ++ opcode_bytes head.map head.opcode
 
-checked_ok : (head x : Head) (bytes rest : List ℕ) → checked head bytes ≡ Ok (x, rest)
-    → (any_row head ≡ true) × (head ≡ x) × (bytes ≡ rest)
+checked_ok : (head x : Head) (bytes rest : List ℕ) → checked head bytes ≡ Ok (x, rest) → (any_row head ≡ true) × (head ≡ x) × (bytes ≡ rest)
 unfolding checked
 checked_ok head x bytes rest e = grind (arith, chosen, err_not_ok, ok_is)
 
@@ -236,14 +235,12 @@ head_more m (b ∷ bs) e =
           )
     ]
 
-opcode_invalid : (m : Prefixes) (b : ℕ) (bs rest : List ℕ) → opcode_at m b bs ≡ Err Invalid
-    → opcode_at m b (bs ++ rest) ≡ Err Invalid
+opcode_invalid : (m : Prefixes) (b : ℕ) (bs rest : List ℕ) → opcode_at m b bs ≡ Err Invalid → opcode_at m b (bs ++ rest) ≡ Err Invalid
 unfolding opcode_at two_at
 opcode_invalid m b [] rest e = grind (arith, checked_stays, chosen, more_not_invalid)
 opcode_invalid m b (c ∷ bs) rest e = grind (arith, checked_stays, chosen)
 
-head_invalid : (m : Prefixes) (bytes rest : List ℕ) → head_at m bytes ≡ Err Invalid
-    → head_at m (bytes ++ rest) ≡ Err Invalid
+head_invalid : (m : Prefixes) (bytes rest : List ℕ) → head_at m bytes ≡ Err Invalid → head_at m (bytes ++ rest) ≡ Err Invalid
 unfolding head_at
 head_invalid m [] rest e = absurd (more_not_invalid e)
 head_invalid m (b ∷ bs) rest e =
@@ -252,8 +249,7 @@ head_invalid m (b ∷ bs) rest e =
       | inr a ↦ rw (a.0) (opcode_invalid m b bs rest a.1)
     ]
 
-head_encoded : (m : Prefixes) (x : Head) (front rest : List ℕ) → EncodesHead m x front
-    → head_at m (front ++ rest) ≡ Ok (x, rest)
+head_encoded : (m : Prefixes) (x : Head) (front rest : List ℕ) → EncodesHead m x front → head_at m (front ++ rest) ≡ Ok (x, rest)
 head_encoded m x front rest h = grind (arith, answer, append_assoc, head_again)
 
 pub head_reads : (m : Prefixes) → Reads (EncodesHead m) (head_at m)

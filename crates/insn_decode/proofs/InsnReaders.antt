@@ -59,8 +59,7 @@ some_modrm head e =
     ]
 
 -- a row with a register has also the row with memory
-memory_too : (h l m k : Bool) → (h && (not l || (m && false)) && (false || k)) ≡ true
-    → (h && (not l || (m && true)) && true) ≡ true
+memory_too : (h l m k : Bool) → (h && (not l || (m && false)) && (false || k)) ≡ true → (h && (not l || (m && true)) && true) ≡ true
 memory_too false l m k e = e
 memory_too true false m k e = refl
 memory_too true true true k e = absurd (false≢true e)
@@ -79,10 +78,8 @@ row_any head m bytes h = grind (arith, any_from, cases_Bool, eqb-true, nil_from_
 at_most_one : (n : ℕ) (bytes : List ℕ) → (n ≡ 0) ⊎ (n ≡ 1) → number_at n bytes ≡ Err More → bytes ≡ []
 unfolding number_at
 at_most_one n [] h e = refl
-at_most_one n (b ∷ bs) (inl z) e =
-    absurd (ok_not_err (0, b ∷ bs) More (subst (λ (k : ℕ). number_at k (b ∷ bs) ≡ Err More) z e))
-at_most_one n (b ∷ bs) (inr o) e =
-    absurd (ok_not_err (b + 256 * 0, bs) More (subst (λ (k : ℕ). number_at k (b ∷ bs) ≡ Err More) o e))
+at_most_one n (b ∷ bs) (inl z) e = absurd (ok_not_err (0, b ∷ bs) More (subst (λ (k : ℕ). number_at k (b ∷ bs) ≡ Err More) z e))
+at_most_one n (b ∷ bs) (inr o) e = absurd (ok_not_err (b + 256 * 0, bs) More (subst (λ (k : ℕ). number_at k (b ∷ bs) ≡ Err More) o e))
 
 modrm_found : (head : Head) (bytes : List ℕ) (m : ℕ) (rest : List ℕ) → modrm_at head bytes ≡ Ok (m, rest)
     → (front : List ℕ) × EncodesModrm head m front × (bytes ≡ front ++ rest)
@@ -93,8 +90,7 @@ modrm_found head bytes m rest e =
     let n = (number_reads (modrm_size head.map head.opcode)).found bytes a.0.0 a.0.1 a.1 in
     grind (arith, chosen, err_not_ok, ok_is)
 
-modrm_again : (head : Head) (m : ℕ) (front rest : List ℕ) → EncodesModrm head m front
-    → modrm_at head (front ++ rest) ≡ Ok (m, rest)
+modrm_again : (head : Head) (m : ℕ) (front rest : List ℕ) → EncodesModrm head m front → modrm_at head (front ++ rest) ≡ Ok (m, rest)
 unfolding modrm_at
 modrm_again head m front rest h =
     let n = (number_reads (modrm_size head.map head.opcode)).again m front rest h.number in
@@ -105,8 +101,7 @@ modrm_more : (head : Head) → any_row head ≡ true → (bytes : List ℕ) → 
 unfolding modrm_at
 modrm_more head any bytes e = grind (arith, at_most_one, bind_err, chosen, more_not_invalid, ok_not_err, size_cases, some_modrm)
 
-modrm_invalid : (head : Head) (bytes rest : List ℕ) → modrm_at head bytes ≡ Err Invalid
-    → modrm_at head (bytes ++ rest) ≡ Err Invalid
+modrm_invalid : (head : Head) (bytes rest : List ℕ) → modrm_at head bytes ≡ Err Invalid → modrm_at head (bytes ++ rest) ≡ Err Invalid
 unfolding modrm_at
 modrm_invalid head bytes rest e =
     let n = number_reads (modrm_size head.map head.opcode) in

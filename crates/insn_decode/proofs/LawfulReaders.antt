@@ -40,8 +40,7 @@ pub chosen : {A : Type 0} (b : Bool) (x y z : A) → cond b x y ≡ z → ((b �
 chosen true x y z e = inl (refl, e)
 chosen false x y z e = inr (refl, e)
 
-pub bind_ok : {A B : Type 0} (r : Result A Stop) (f : A → Result B Stop) (y : B) → (r >>= f) ≡ Ok y
-    → (x : A) × (r ≡ Ok x) × (f x ≡ Ok y)
+pub bind_ok : {A B : Type 0} (r : Result A Stop) (f : A → Result B Stop) (y : B) → (r >>= f) ≡ Ok y → (x : A) × (r ≡ Ok x) × (f x ≡ Ok y)
 bind_ok (Ok x) f y e = (x, refl, e)
 bind_ok (Err d) f y e = absurd (err_not_ok y d e)
 
@@ -182,15 +181,13 @@ unfolding number_at
 number_again zero [] rest e = refl
 number_again zero (b ∷ bs) rest e = absurd (omega (arith, e))
 number_again (suc n) [] rest e = absurd (omega (arith, e))
-number_again (suc n) (b ∷ bs) rest e =
-    ap (λ (r : Read ℕ). r >>= λ p. Ok (b + 256 * p.0, p.1)) (number_again n bs rest (omega (arith, e)))
+number_again (suc n) (b ∷ bs) rest e = ap (λ (r : Read ℕ). r >>= λ p. Ok (b + 256 * p.0, p.1)) (number_again n bs rest (omega (arith, e)))
 
 zeros : (n : ℕ) → (front : List ℕ) × Number n (little_endian front) front × AllBytes front
 zeros zero = ([], record { size = refl; value_is = refl }, tt)
 zeros (suc n) = let z = zeros n in (0 ∷ z.0, record { size = ap suc z.1.size; value_is = refl }, (omega arith, z.2))
 
-number_more : (n : ℕ) (bytes : List ℕ) → number_at n bytes ≡ Err More
-    → (tail : List ℕ) × (length (bytes ++ tail) ≡ n) × AllBytes tail
+number_more : (n : ℕ) (bytes : List ℕ) → number_at n bytes ≡ Err More → (tail : List ℕ) × (length (bytes ++ tail) ≡ n) × AllBytes tail
 unfolding number_at
 number_more zero bytes e = absurd (ok_not_err (0, bytes) More e)
 number_more (suc n) [] e = let z = zeros (suc n) in (z.0, z.1.size, z.2)
@@ -224,8 +221,7 @@ some_number n = let z = zeros n in (little_endian z.0, z.0, z.1, z.2)
 
 -- ---- some way on
 
-pub then_some : {A B : Type 0} (S : A → List ℕ → Type 0) (T : A → B → List ℕ → Type 0) (x : A) (f : List ℕ) (y : B)
-    (g : List ℕ) → S x f → AllBytes f → T x y g → AllBytes g
-    → (z : B) × (h : List ℕ) × Then S T z h × AllBytes h
+pub then_some : {A B : Type 0} (S : A → List ℕ → Type 0) (T : A → B → List ℕ → Type 0) (x : A) (f : List ℕ) (y : B) (g : List ℕ) → S x f →
+    AllBytes f → T x y g → AllBytes g → (z : B) × (h : List ℕ) × Then S T z h × AllBytes h
 then_some S T x f y g s a t b =
     (y, f ++ g, record { middle = x; one = f; two = g; first = s; second = t; whole = refl }, bytes_append f g a b)

@@ -50,9 +50,8 @@ two_is [] v le e = absurd (omega (arith, le))
 two_is (a ∷ []) v le e = absurd (omega (arith, le))
 two_is (a ∷ b ∷ bs) v le e = ap (λ n. ok n bs) (omega (arith, e))
 
-four_is : (bs : List ℕ) (v : ℕ) → 4 ≤ length bs
-    → v ≡ get_or bs 0 0 + get_or bs 1 0 * 256 + get_or bs 2 0 * 65536 + get_or bs 3 0 * 16777216
-    → number_at 4 bs ≡ ok v (drop 4 bs)
+four_is : (bs : List ℕ) (v : ℕ) → 4 ≤ length bs →
+    v ≡ get_or bs 0 0 + get_or bs 1 0 * 256 + get_or bs 2 0 * 65536 + get_or bs 3 0 * 16777216 → number_at 4 bs ≡ ok v (drop 4 bs)
 unfolding number_at
 four_is [] v le e = absurd (omega (arith, le))
 four_is (a ∷ []) v le e = absurd (omega (arith, le))
@@ -60,8 +59,7 @@ four_is (a ∷ b ∷ []) v le e = absurd (omega (arith, le))
 four_is (a ∷ b ∷ c ∷ []) v le e = absurd (omega (arith, le))
 four_is (a ∷ b ∷ c ∷ d ∷ bs) v le e = ap (λ n. ok n bs) (omega (arith, e))
 
-pub one_gives : (bs : List ℕ) (v : ℕ) → 1 ≤ length bs → v ≡ get_or bs 0 0
-    → number_at 1 bs ≡ Ok (v, take (length bs - 1) (drop 1 bs))
+pub one_gives : (bs : List ℕ) (v : ℕ) → 1 ≤ length bs → v ≡ get_or bs 0 0 → number_at 1 bs ≡ Ok (v, take (length bs - 1) (drop 1 bs))
 one_gives bs v le e = one_is bs v le e ∙ rest_is bs 1 v le
 
 pub two_gives : (bs : List ℕ) (v : ℕ) → 2 ≤ length bs → v ≡ get_or bs 0 0 + get_or bs 1 0 * 256

@@ -62,9 +62,7 @@ two_has_rows k d lt =
 
 picked_from : (i n : ℕ) (rows : List Row) → get_or rows n (no_row Empty Empty) ≡ pick i rows (i + n)
 picked_from i n [] = refl
-picked_from i zero (r ∷ rs) =
-    let e : eqb (i + 0) i ≡ true = eq-eqb (i + 0) i (omega arith) in
-    rw e refl
+picked_from i zero (r ∷ rs) = let e : eqb (i + 0) i ≡ true = eq-eqb (i + 0) i (omega arith) in rw e refl
 picked_from i (suc n) (r ∷ rs) =
     let e : eqb (i + suc n) i ≡ false = ne_eqb (i + suc n) i (λ q. omega (arith, q)) in
     let s : i + suc n ≡ suc i + n = omega arith in

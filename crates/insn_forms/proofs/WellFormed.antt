@@ -20,9 +20,7 @@ use Rattle.insn_forms.specs.declared.insn.Operand.TheVariants as operands
 
 -- what holds of the first kind, and of both
 first_of_two : (p : Kind → Bool) (a b : Kind) → all_of p (a ∷ b ∷ []) ≡ true → (p a ≡ true) × (p b ≡ true)
-first_of_two p a b e =
-    let s = and_parts (p a) (p b && true) e in
-    (s.0, (and_parts (p b) true s.1).0)
+first_of_two p a b e = let s = and_parts (p a) (p b && true) e in (s.0, (and_parts (p b) true s.1).0)
 
 only : (p : Kind → Bool) (a : Kind) → all_of p (a ∷ []) ≡ true → p a ≡ true
 only p a e = (and_parts (p a) true e).0
@@ -104,13 +102,11 @@ index16_number rm =
 
 base32_number : (modrm base : ℕ) → base < 8 → is_number (base32 modrm base) ≡ true
 unfolding IsNumber
-base32_number modrm base lt =
-    cond_both (eqb base 5 && eqb (mod_of modrm) 0) _ _ IsNumber (λ _. refl) (λ _. lt-ltb base 8 lt)
+base32_number modrm base lt = cond_both (eqb base 5 && eqb (mod_of modrm) 0) _ _ IsNumber (λ _. refl) (λ _. lt-ltb base 8 lt)
 
 index32_number : (sib : ℕ) → is_number (index32 sib) ≡ true
 unfolding IsNumber
-index32_number sib =
-    cond_both (eqb (sib / 8 % 8) 4) _ _ IsNumber (λ _. refl) (λ _. lt-ltb (sib / 8 % 8) 8 (omega arith))
+index32_number sib = cond_both (eqb (sib / 8 % 8) 4) _ _ IsNumber (λ _. refl) (λ _. lt-ltb (sib / 8 % 8) 8 (omega arith))
 
 abbrev is_scale : ℕ → Bool
 is_scale n = n == 1 || n == 2 || n == 4 || n == 8
@@ -129,8 +125,7 @@ good_place : (seg : Option SegReg) (base index : Option ℕ) (scale disp : ℕ) 
 good_place seg base index scale disp b i s =
     and_from (is_number base && is_number index) (is_scale scale) (and_from (is_number base) (is_number index) b i) s
 
-good_memory : (prefixes : Prefixes) (addr32 : Bool) (address : Addressing)
-    → is_place_in_memory (memory prefixes addr32 address) ≡ true
+good_memory : (prefixes : Prefixes) (addr32 : Bool) (address : Addressing) → is_place_in_memory (memory prefixes addr32 address) ≡ true
 unfolding memory IsPlace
 good_memory prefixes true address =
     let modrm = address.modrm in
@@ -159,14 +154,11 @@ unfolding operand
 good_operand head wide addr32 address forms.Empty v = refl
 good_operand head wide addr32 address forms.Eb v = good_either 8 head.prefixes addr32 address refl
 good_operand head wide addr32 address forms.Ew v = good_either 16 head.prefixes addr32 address refl
-good_operand head wide addr32 address forms.Ev v =
-    good_either (width_of wide) head.prefixes addr32 address (half_is_width wide)
+good_operand head wide addr32 address forms.Ev v = good_either (width_of wide) head.prefixes addr32 address (half_is_width wide)
 good_operand head wide addr32 address forms.Gb v = good_register 8 (reg_of address.modrm) refl (omega arith)
 good_operand head wide addr32 address forms.Gw v = good_register 16 (reg_of address.modrm) refl (omega arith)
-good_operand head wide addr32 address forms.Gv v =
-    good_register (width_of wide) (reg_of address.modrm) (half_is_width wide) (omega arith)
-good_operand head wide addr32 address forms.RvMw v =
-    good_either (width_of wide) head.prefixes addr32 address (half_is_width wide)
+good_operand head wide addr32 address forms.Gv v = good_register (width_of wide) (reg_of address.modrm) (half_is_width wide) (omega arith)
+good_operand head wide addr32 address forms.RvMw v = good_either (width_of wide) head.prefixes addr32 address (half_is_width wide)
 good_operand head wide addr32 address forms.Sw v = refl
 good_operand head wide addr32 address forms.M v = good_memory head.prefixes addr32 address
 good_operand head wide addr32 address forms.Al v = refl
@@ -184,8 +176,7 @@ good_operand head wide addr32 address forms.Ip v = refl
 good_operand head wide addr32 address forms.Ob v = refl
 good_operand head wide addr32 address forms.Ov v = refl
 good_operand head wide addr32 address forms.Zb v = good_register 8 (head.opcode % 8) refl (omega arith)
-good_operand head wide addr32 address forms.Zv v =
-    good_register (width_of wide) (head.opcode % 8) (half_is_width wide) (omega arith)
+good_operand head wide addr32 address forms.Zv v = good_register (width_of wide) (head.opcode % 8) (half_is_width wide) (omega arith)
 good_operand head wide addr32 address forms.Xb v = refl
 good_operand head wide addr32 address forms.Xv v = refl
 good_operand head wide addr32 address forms.SegEs v = refl

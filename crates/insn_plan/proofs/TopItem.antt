@@ -35,16 +35,14 @@ item_of_run w width n k sp bytes count some is inside less read =
     ∙ ap number_read read
 
 -- eight of them
-pub eight_numbers : (w : World) (width n sp : ℕ) (items : List (List ℕ)) (d : List ℕ) (v0 v1 v2 v3 v4 v5 v6 v7 : ℕ) →
-    byte_count width ≡ n → 0 < n →
-    sp ≡ cut_address (has_big_stack w) w.regs.esp → sp + n * 8 ≤ 0x10000 →
+pub eight_numbers : (w : World) (width n sp : ℕ) (items : List (List ℕ)) (d : List ℕ) (v0 v1 v2 v3 v4 v5 v6 v7 : ℕ) → byte_count width ≡ n →
+    0 < n → sp ≡ cut_address (has_big_stack w) w.regs.esp → sp + n * 8 ≤ 0x10000 →
     ((k : ℕ) (other : List ℕ) → k < 8 → read_result w Ss (sp + n * k) n ≡ Ok (slice_index_or items k other)) →
     v0 ≡ little_endian (slice_index_or items 0 d) → v1 ≡ little_endian (slice_index_or items 1 d) →
-    v2 ≡ little_endian (slice_index_or items 2 d) →
-    v3 ≡ little_endian (slice_index_or items 3 d) → v4 ≡ little_endian (slice_index_or items 4 d) →
-    v5 ≡ little_endian (slice_index_or items 5 d) →
-    v6 ≡ little_endian (slice_index_or items 6 d) → v7 ≡ little_endian (slice_index_or items 7 d) →
-    (k : ℕ) → k < 8 → value_of w (stack_item w width k) ≡ Ok (slice_index (v0 ∷ v1 ∷ v2 ∷ v3 ∷ v4 ∷ v5 ∷ v6 ∷ v7 ∷ []) k)
+    v2 ≡ little_endian (slice_index_or items 2 d) → v3 ≡ little_endian (slice_index_or items 3 d) →
+    v4 ≡ little_endian (slice_index_or items 4 d) → v5 ≡ little_endian (slice_index_or items 5 d) →
+    v6 ≡ little_endian (slice_index_or items 6 d) → v7 ≡ little_endian (slice_index_or items 7 d) → (k : ℕ) → k < 8 →
+    value_of w (stack_item w width k) ≡ Ok (slice_index (v0 ∷ v1 ∷ v2 ∷ v3 ∷ v4 ∷ v5 ∷ v6 ∷ v7 ∷ []) k)
 eight_numbers w width n sp items d v0 v1 v2 v3 v4 v5 v6 v7 count some is inside read e0 e1 e2 e3 e4 e5 e6 e7 zero less =
     item_of_run w width n 0 sp (slice_index_or items 0 d) count some is inside less (read 0 d less) ∙ ap (λ (v : ℕ). Ok v) (sym e0)
 eight_numbers w width n sp items d v0 v1 v2 v3 v4 v5 v6 v7 count some is inside read e0 e1 e2 e3 e4 e5 e6 e7 (suc zero) less =

@@ -75,9 +75,7 @@ step_alone v = step_of_alone v (decoded (has_big_code v.world) (code v.world))
 -- ---- an interrupt
 
 pushed_alone : (v : MachineView) → (after_frame_push v).world ≡ (after_frame_push (view_without_bytes v.world)).world
-pushed_alone v =
-    let p = interrupt_push v.world in
-    ap (λ (w : World). record w { regs = p.regs; vif = p.vif }) (all_alone v p.writes)
+pushed_alone v = let p = interrupt_push v.world in ap (λ (w : World). record w { regs = p.regs; vif = p.vif }) (all_alone v p.writes)
 
 served_where : (o : Option Fault) (x y : Result MachineView Fault) → world_of_result x ≡ world_of_result y →
     world_of_result (elim o [ Some f ↦ Err f | None ↦ x ]) ≡ world_of_result (elim o [ Some f ↦ Err f | None ↦ y ])
@@ -91,8 +89,7 @@ entered_alone v p =
     served_where (transfer_fault v.world p.sel p.off false) (Ok (with_state r (handler_interrupts v.world) v))
     (Ok (with_state r (handler_interrupts v.world) (view_without_bytes v.world))) refl
 
-handler_alone : (v : MachineView) (n : ℕ) →
-    world_of_result (after_handler_entry v (interrupt_vector v.world n))
+handler_alone : (v : MachineView) (n : ℕ) → world_of_result (after_handler_entry v (interrupt_vector v.world n))
     ≡ on_world (λ u. after_handler_entry u (interrupt_vector u.world n)) v.world
 handler_alone v n = entered_alone v (interrupt_vector v.world n)
 
@@ -136,8 +133,7 @@ interrupt_of_alone f (Err g) = refl
 delivered_by : (v : MachineView) (f : Fault) (served : Bool) → has_real_vector f.number ≡ served →
     world_of_result (real_delivery v f) ≡ world_of_result (real_delivery (view_without_bytes v.world) f)
 unfolding real_delivery
-delivered_by v f true e =
-    rw e (interrupt_of_alone f _ ∙ ap (exit_of f) (software_alone v f.number 0) ∙ sym (interrupt_of_alone f _))
+delivered_by v f true e = rw e (interrupt_of_alone f _ ∙ ap (exit_of f) (software_alone v f.number 0) ∙ sym (interrupt_of_alone f _))
 delivered_by v f false e = rw e refl
 
 pub delivery_alone : (v : MachineView) (f : Fault) → world_of_result (real_delivery v f) ≡ world_delivery v.world f

@@ -43,8 +43,7 @@ return_state v u e = quiet_state v u _ (quiet_frame v.world (frame_bits v.world)
 
 -- one change after another
 kept_then : (w u t : World) → HasOtherRegistersAndMemory w u → HasOtherRegistersAndMemory u t → HasOtherRegistersAndMemory w t
-kept_then w u t before after =
-    after ∙ ap (λ (x : World). record x { regs = t.regs; vif = t.vif; dos = t.dos; blocks = t.blocks }) before
+kept_then w u t before after = after ∙ ap (λ (x : World). record x { regs = t.regs; vif = t.vif; dos = t.dos; blocks = t.blocks }) before
 
 -- ---- plans and steps
 
@@ -98,14 +97,11 @@ kept_interrupted v u n e =
 
 kept_interrupt : (v u : MachineView) (n len : ℕ) → software_interrupt v n len ≡ Ok u → HasOtherRegistersAndMemory v.world u.world
 unfolding software_interrupt
-kept_interrupt v u n len e =
-    let at = view_with_next_eip len v in
-    kept_then v.world at.world u.world refl (kept_interrupted at u n e)
+kept_interrupt v u n len e = let at = view_with_next_eip len v in kept_then v.world at.world u.world refl (kept_interrupted at u n e)
 
 kept_delivery : (v u : MachineView) (f : Fault) → real_delivery v f ≡ Ok u → HasOtherRegistersAndMemory v.world u.world
 unfolding real_delivery
-kept_delivery v u f e =
-    kept_interrupt v u f.number 0 (delivered_was (has_real_vector f.number) f (software_interrupt v f.number 0) u e)
+kept_delivery v u f e = kept_interrupt v u f.number 0 (delivered_was (has_real_vector f.number) f (software_interrupt v f.number 0) u e)
 
 -- ---- of worlds
 
@@ -144,8 +140,7 @@ real_loads w n s real =
 
 -- in protected mode it depends on the descriptors and the vectors
 abbrev protected_fault : List Row → List FarPtr → ℕ → Option Fault
-protected_fault rows vectors n =
-    load_fault rows Cs (vector_at vectors n).sel (vector_at vectors n).off false
+protected_fault rows vectors n = load_fault rows Cs (vector_at vectors n).sel (vector_at vectors n).off false
 
 protected_is : (w : World) (n : ℕ) → w.mode ≡ Protected → vector_fault w n ≡ protected_fault w.descriptors w.interrupt_vectors n
 protected_is w n is = rw is refl
@@ -202,8 +197,7 @@ granted_after : (v : MachineView) (n : ℕ) → IsSound (after_frame_push v).wor
 granted_after v n s e = granted_by_mode v n v.world.mode refl s e
 
 pub granted_after_pushes : (v u : MachineView) (n : ℕ) (p : FarPtr) → u ≡ after_frame_push v → IsSound u.world →
-    handler_fault v.world n ≡ None →
-    p ≡ interrupt_vector u.world n → transfer_fault u.world p.sel p.off false ≡ None
+    handler_fault v.world n ≡ None → p ≡ interrupt_vector u.world n → transfer_fault u.world p.sel p.off false ≡ None
 granted_after_pushes v u n p same s e at =
     ap (λ (q : FarPtr). transfer_fault u.world q.sel q.off false) at
     ∙ ap (λ (t : MachineView). vector_fault t.world n) same

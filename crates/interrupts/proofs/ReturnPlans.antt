@@ -113,9 +113,7 @@ IsWordWhere fits (Ok v) = (fits ≡ true) × (v < 0x10000)
 IsWordWhere fits (Err e) = fits ≡ false
 
 in_view : (blocks : List (Option MemoryBlock)) (l : ℕ) → l < DOS_VIEW_END → place_in blocks (linear l) ≡ Dos (dos_address l)
-in_view blocks l below =
-    let same : l % 2 ^ 32 ≡ l = omega arith in
-    ap (place_in blocks) same ∙ place-dos blocks l below
+in_view blocks l below = let same : l % 2 ^ 32 ≡ l = omega arith in ap (place_in blocks) same ∙ place-dos blocks l below
 
 word_in_view : (w : World) (at : ℕ) → IsSound w → at + 1 < DOS_VIEW_END →
     IsWordWhere true (number_read (bytes_at w (touched_places (places_from w.blocks at 2) false)))
@@ -151,16 +149,14 @@ read_where w (Err e) rest fits later none made = rw none refl
 item_made : (w : World) (above : ℕ) (rest : ℕ → Act) (later : Bool) → IsSound w →
     ((v : ℕ) → v < 0x10000 → IsMadeWhere (real w) later (rest v)) →
     IsMadeWhere (real w) (word_fits w.regs.esp above && later) (Read (stack_item (real w) 16 above) rest)
-item_made w above rest later s made =
-    read_where (real w) _ rest _ later (item_where w above s) (λ v small. made v small)
+item_made w above rest later s made = read_where (real w) _ rest _ later (item_where w above s) (λ v small. made v small)
 
 image_made : (w : World) (ip cs image : ℕ) → ip < 0x10000 → IsMadeWhere (real w) true (with_image (real w) 16 ip cs image)
 unfolding far_transfer
 image_made w ip cs image small = rw (lt-ltb ip SEGMENT_SIZE small) refl
 
 cs_made : (w : World) (ip cs : ℕ) → IsSound w → ip < 0x10000 → IsMadeWhere (real w) (word_fits w.regs.esp 2) (with_cs (real w) 16 ip cs)
-cs_made w ip cs s small =
-    item_made w 2 (with_image (real w) 16 ip cs) true s (λ image _. image_made w ip cs image small) ∙ and-true _
+cs_made w ip cs s small = item_made w 2 (with_image (real w) 16 ip cs) true s (λ image _. image_made w ip cs image small) ∙ and-true _
 
 ip_made : (w : World) (ip : ℕ) → IsSound w → ip < 0x10000 →
     IsMadeWhere (real w) (word_fits w.regs.esp 1 && word_fits w.regs.esp 2) (with_ip (real w) 16 ip)
@@ -168,9 +164,7 @@ ip_made w ip s small = item_made w 1 (with_cs (real w) 16 ip) _ s (λ cs _. cs_m
 
 frame_made : (w : World) → IsSound w → is_ok (plan_result (real w) (interrupt_frame_pop (real w) 16)) ≡ frame_fits w.regs.esp
 unfolding interrupt_frame_pop
-frame_made w s =
-    item_made w 0 (with_ip (real w) 16) _ s (λ ip small. ip_made w ip s small)
-    ∙ sym (and_assoc (word_fits w.regs.esp 0) _ _)
+frame_made w s = item_made w 0 (with_ip (real w) 16) _ s (λ ip small. ip_made w ip s small) ∙ sym (and_assoc (word_fits w.regs.esp 0) _ _)
 
 -- ---- of worlds
 

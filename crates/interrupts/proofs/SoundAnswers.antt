@@ -31,8 +31,7 @@ code_is_named_by_a_word rows sel offset return size e = loaded_is_word rows Cs s
 -- the handler's segment, where it may be loaded, is a word: in real mode always
 handler_by_mode : (m : Mode) (w : World) (n : ℕ) → IsSound w →
     transfer_fault (record w { mode = m }) (interrupt_vector (record w { mode = m }) n).sel (interrupt_vector (record w { mode = m }) n).off
-    false ≡ None →
-    (interrupt_vector (record w { mode = m }) n).sel < 0x10000
+    false ≡ None → (interrupt_vector (record w { mode = m }) n).sel < 0x10000
 handler_by_mode Real w n s e = omega (arith, s.megabyte.bytes (4 * n + 2), s.megabyte.bytes (4 * n + 2 + 1))
 handler_by_mode Protected w n s e = code_is_named_by_a_word w.descriptors _ _ false s.descriptors.indices e
 
@@ -50,9 +49,7 @@ sound_at_handler v p s small =
 
 sound_where_granted : (o : Option Fault) (at u : MachineView) → (o ≡ None → IsSound at.world) →
     elim o as (λ _. Result MachineView Fault) [ Some f ↦ Err f | None ↦ Ok at ] ≡ Ok u → IsSound u.world
-sound_where_granted None at u s e =
-    let same : at ≡ u = cc in
-    subst (λ (m : MachineView). IsSound m.world) same (s refl)
+sound_where_granted None at u s e = let same : at ≡ u = cc in subst (λ (m : MachineView). IsSound m.world) same (s refl)
 sound_where_granted (Some f) at u s e = absurd cc
 
 sound_entered : (v u : MachineView) (n : ℕ) → IsSound v.world → after_handler_entry v (interrupt_vector v.world n) ≡ Ok u → IsSound u.world

@@ -102,8 +102,7 @@ kept_far w u e =
 -- ---- the entry
 
 abbrev KeptByEntry : World → World → Type 0
-KeptByEntry w u =
-    u ≡ record w { mode = u.mode; regs = u.regs; width = u.width; dos = u.dos; descriptors = u.descriptors }
+KeptByEntry w u = u ≡ record w { mode = u.mode; regs = u.regs; width = u.width; dos = u.dos; descriptors = u.descriptors }
 
 kept_answer : (o : Option Width) (w : World) → KeptByEntry w (entry_answer o w).world
 unfolding after_first_entry

@@ -76,8 +76,7 @@ record IsReady (w : World) (index : ℕ) : Type 0 where
   pub free : AreFreeFrom w.descriptors index
 
 next_ready : (w : World) (index : ℕ) (d : Desc) (origin : Origin) → IsReady w index → FIRST_FREE_DESCRIPTOR ≤ index → index < DESCRIPTORS →
-    FitsDescriptor d → IsPlainOrigin origin →
-    IsReady (with_row index (Some (d, origin)) w) (index + 1)
+    FitsDescriptor d → IsPlainOrigin origin → IsReady (with_row index (Some (d, origin)) w) (index + 1)
 next_ready w index d origin ready from to fits plain = record {
   sound = (may_put w index d origin ready.sound ready.width from to fits plain ready.free).sound;
   width = ready.width;

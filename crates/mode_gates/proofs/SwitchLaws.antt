@@ -68,16 +68,14 @@ unfolding world_after_switch_to_protected
 is_switched w u e = switched_of w u w.width refl e
 
 pub sound_to_protected : (w u : World) → IsSound w → world_after_switch_to_protected w ≡ Ok u → IsSound u
-sound_to_protected w u s e =
-    let t = is_switched w u e in subst IsSound (sym t.is) (sound_switch w t.width t.made s)
+sound_to_protected w u s e = let t = is_switched w u e in subst IsSound (sym t.is) (sound_switch w t.width t.made s)
 
 after_switches : (w : World) (width : Option Width) → Switches w (after_switch w width)
 unfolding after_switch
 after_switches w width = refl
 
 pub to_protected_switches : (w u : World) → world_after_switch_to_protected w ≡ Ok u → Switches w u
-to_protected_switches w u e =
-    let t = is_switched w u e in subst (Switches w) (sym t.is) (after_switches w (Some t.width))
+to_protected_switches w u e = let t = is_switched w u e in subst (Switches w) (sym t.is) (after_switches w (Some t.width))
 
 pub to_real_switches : (w : World) → Switches w (world_after_switch_to_real w)
 unfolding world_after_switch_to_real

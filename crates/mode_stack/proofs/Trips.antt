@@ -75,10 +75,8 @@ both_put kind number vif code at saved h rs is regs =
     ∙ ap (λ (n : ℕ). record_head kind number vif code at ++ (regs_bytes saved ++ zeros (112 - n))) long
 
 pub sim_packed : (r : Record) (call : Call) (saved : Regs) (vif : Bool) (at : FarPtr) (kind number : ℕ) (a b h rs : List ℕ) →
-    r ≡ Sim call saved vif at →
-    kind ≡ call_kind call → number ≡ call_number call → h ≡ record_head kind number vif 0 at → rs ≡ regs_bytes saved →
-    a ≡ put blank_row 0 h → b ≡ put a 16 rs →
-    b ≡ record_bytes r
+    r ≡ Sim call saved vif at → kind ≡ call_kind call → number ≡ call_number call → h ≡ record_head kind number vif 0 at →
+    rs ≡ regs_bytes saved → a ≡ put blank_row 0 h → b ≡ put a 16 rs → b ≡ record_bytes r
 unfolding record_bytes
 sim_packed r call saved vif at kind number a b h rs is kinds numbers head regs one two =
     two ∙ ap (λ (x : List ℕ). put x 16 rs) one ∙ both_put kind number vif 0 at saved h rs head regs
@@ -155,8 +153,7 @@ record_back trip (Back slot at) = other_back slot at
 record_back trip (Exc number code) = exc_back number code
 
 pub exact_bytes : FlagsTrip → (r : Record) (bytes : List ℕ) → bytes ≡ record_bytes r → record_bytes (record_at bytes 0) ≡ bytes
-exact_bytes trip r bytes is =
-    ap (λ (b : List ℕ). record_bytes (record_at b 0)) is ∙ ap record_bytes (record_back trip r) ∙ sym is
+exact_bytes trip r bytes is = ap (λ (b : List ℕ). record_bytes (record_at b 0)) is ∙ ap record_bytes (record_back trip r) ∙ sym is
 
 pub read_bytes : FlagsTrip → (r : Record) (bytes : List ℕ) → bytes ≡ record_bytes r → record_at bytes 0 ≡ r
 read_bytes trip r bytes is = ap (λ (b : List ℕ). record_at b 0) is ∙ record_back trip r

@@ -59,8 +59,7 @@ within_limit file limit at n i h none =
     (or_parts (nat_lt limit (relocation_target file (at + 4 * i) + 2)) (some_beyond file limit (at + 4 * i + 4) (n - (i + 1))) here).0
 
 -- the next one made
-pub all_relocated_next : (file : List ℕ) (at n i : ℕ) (dos : List ℕ) → i < n →
-    after_relocations file (at + 4 * i) (n - i) dos
+pub all_relocated_next : (file : List ℕ) (at n i : ℕ) (dos : List ℕ) → i < n → after_relocations file (at + 4 * i) (n - i) dos
     ≡ after_relocations file (at + 4 * (i + 1)) (n - (i + 1)) (after_relocation dos (relocation_target file (at + 4 * i)))
 unfolding after_relocations
 all_relocated_next file at n i dos h =

@@ -103,8 +103,7 @@ image_fits : (n m : ℕ) → nat_lt most_paras (psp_paras + (n + 15) / PARAGRAPH
 image_fits n m room = let within = ltb-false most_paras (psp_paras + (n + 15) / PARAGRAPH_SIZE + m) room in omega arith
 
 sound_relocated : (dos : List ℕ) (target paras : ℕ) → SoundMegabyte dos → paras ≤ most_paras →
-    target + 2 ≤ PARAGRAPH_SIZE * (paras - psp_paras) →
-    SoundMegabyte (after_relocation dos target)
+    target + 2 ≤ PARAGRAPH_SIZE * (paras - psp_paras) → SoundMegabyte (after_relocation dos target)
 unfolding after_relocation
 sound_relocated dos target paras s few within =
     let v = (word_of dos (IMAGE_START + target) + IMAGE_SEGMENT) % 0x10000 in
@@ -126,8 +125,7 @@ unfolding image
 length-image file = length-listed (image_length file) (λ k. slice_index file (header_length file + k))
 
 sound_program : (file : List ℕ) (dos : List ℕ) → AreBytes file → has_no_room file ≡ false → has_bad_target file ≡ false →
-    SoundMegabyte dos →
-    SoundMegabyte (with_program file dos)
+    SoundMegabyte dos → SoundMegabyte (with_program file dos)
 unfolding with_program
 sound_program file dos bytes room targets s =
     let fits = image_fits (image_length file) (minimum file) room in

@@ -66,8 +66,7 @@ first_is_free first next Free list some = by_frames list.frames list.linked list
 
 -- where there is none, no frame is free
 pub none_is_free : (first : ℕ) (next : ℕ → ℕ) (Free : ℕ → Type 0) → ListsFree first next Free → first ≡ 0 →
-    ((frame : ℕ) → Free frame → frame ≢ 0) →
-    (frame : ℕ) → Free frame → ⊥
+    ((frame : ℕ) → Free frame → frame ≢ 0) → (frame : ℕ) → Free frame → ⊥
 none_is_free first next Free list none some frame is = by_frames list.frames list.linked list.exactly
   where
     by_frames : (frames : List ℕ) → IsChain next first frames → ((f : ℕ) → Contains frames f ↔ Free f) → ⊥
@@ -76,9 +75,8 @@ none_is_free first next Free list none some frame is = by_frames list.frames lis
 
 -- without its first frame
 pub rest_of_free : (first head : ℕ) (next other : ℕ → ℕ) (Free Idle : ℕ → Type 0) → ListsFree first next Free → first ≢ 0 →
-    head ≡ next first →
-    ((frame : ℕ) → Idle frame → other frame ≡ next frame) → ((frame : ℕ) → Idle frame ↔ (Free frame × (frame ≢ first))) →
-    ListsFree head other Idle
+    head ≡ next first → ((frame : ℕ) → Idle frame → other frame ≡ next frame) →
+    ((frame : ℕ) → Idle frame ↔ (Free frame × (frame ≢ first))) → ListsFree head other Idle
 rest_of_free first head next other Free Idle list some e same idle = by_frames list.frames list.linked list.once list.exactly
   where
     by_frames : (frames : List ℕ) → IsChain next first frames →
@@ -110,9 +108,8 @@ rest_of_free first head next other Free Idle list some e same idle = by_frames l
 
 -- with a frame before the first one
 pub more_of_free : (first head : ℕ) (next other : ℕ → ℕ) (Free Idle : ℕ → Type 0) → ListsFree first next Free → (Free head → ⊥) →
-    other head ≡ first →
-    ((frame : ℕ) → Free frame → other frame ≡ next frame) → ((frame : ℕ) → Idle frame ↔ (Free frame ⊎ (frame ≡ head))) →
-    ListsFree head other Idle
+    other head ≡ first → ((frame : ℕ) → Free frame → other frame ≡ next frame) →
+    ((frame : ℕ) → Idle frame ↔ (Free frame ⊎ (frame ≡ head))) → ListsFree head other Idle
 more_of_free first head next other Free Idle list fresh e same idle = record {
   frames = head ∷ list.frames;
   linked = (
@@ -262,8 +259,7 @@ head_taken b b1 b2 frame next place budget list first some follows at e1 e2 = gr
 
 pub frame_given : (b b1 b2 b3 : List ℕ) (frame head place : ℕ) → HasBudget b → HasFreeList b → IsBudgetFrame b frame → IsTaken b frame →
     head ≡ first_free b → place ≡ taken_place frame → b1 ≡ put b (PAGE_SIZE * frame) (dword_bytes head) →
-    b2 ≡ put b1 FREE_LIST_HEAD (dword_bytes frame) →
-    b3 ≡ slice_set b2 place 0 → HasFreeList b3
+    b2 ≡ put b1 FREE_LIST_HEAD (dword_bytes frame) → b3 ≡ slice_set b2 place 0 → HasFreeList b3
 frame_given b b1 b2 b3 frame head place budget list is taken first at e1 e2 e3 = grind (arith, list_with_head)
 
 -- the frames from one on

@@ -98,8 +98,7 @@ apart_frames : (f g i j : ℕ) → i < TABLE_ENTRIES → j < TABLE_ENTRIES → f
 apart_frames f g i j hi hj ne = grind (arith, cases_lt)
 
 -- nor do two entries of one table
-apart_indices : (f g i j : ℕ) → f ≡ g → i ≢ j →
-    (entry_place f i + 4 ≤ entry_place g j) ⊎ (entry_place g j + 4 ≤ entry_place f i)
+apart_indices : (f g i j : ℕ) → f ≡ g → i ≢ j → (entry_place f i + 4 ≤ entry_place g j) ⊎ (entry_place g j + 4 ≤ entry_place f i)
 apart_indices f g i j e ne = grind (arith, cases_lt)
 
 directory-with_entry : (b : List ℕ) (lin v index : ℕ) → HasTables b → lin < 2 ^ 32 → IsCovered b lin → index < TABLE_ENTRIES →
@@ -134,8 +133,7 @@ walk_of c root lin directory v write e f = rw (e, f) refl
 
 -- the table entries of two pages don't meet
 entries_apart : (b : List ℕ) (lin other : ℕ) → HasTables b → lin < 2 ^ 32 → other < 2 ^ 32 → IsCovered b lin → IsCovered b other →
-    page_of other ≢ page_of lin →
-    (table_place b PAGE_DIRECTORY lin + 4 ≤ table_place b PAGE_DIRECTORY other)
+    page_of other ≢ page_of lin → (table_place b PAGE_DIRECTORY lin + 4 ≤ table_place b PAGE_DIRECTORY other)
     ⊎ (table_place b PAGE_DIRECTORY other + 4 ≤ table_place b PAGE_DIRECTORY lin)
 entries_apart b lin other t small within covered named ne = grind (arith, apart_frames, apart_indices, cases_eq)
 

@@ -79,8 +79,7 @@ on_before {exit = exit} c w none = elim (either (exit w)) [
 
 -- without an exit each turn was counted
 pub counted_turns : {turn : WatchWorld → WatchWorld} {console : WatchWorld → List ℕ} {exit : WatchWorld → Option Exit}
-    {steps : WatchWorld → ℕ}
-    (c : Client turn console exit steps) (w : WatchWorld) (n : ℕ) →
+    {steps : WatchWorld → ℕ} (c : Client turn console exit steps) (w : WatchWorld) (n : ℕ) →
     steps w ≡ 0 → exit (turns_of turn n w) ≡ None → steps (turns_of turn n w) ≡ n
 unfolding turns_of
 counted_turns c w zero first none = first
@@ -168,8 +167,7 @@ by_exit close exit e ends w (Some x) some =
 
 -- a closed world has an exit, and a world that had one keeps it
 pub closed_ends : (close : WatchWorld → WatchWorld) (exit : WatchWorld → Option Exit) (e : Exit) →
-    ((w : WatchWorld) → exit (close w) ≡ Some e) →
-    (w : WatchWorld) → IsSome (exit (closed_by close exit w))
+    ((w : WatchWorld) → exit (close w) ≡ Some e) → (w : WatchWorld) → IsSome (exit (closed_by close exit w))
 closed_ends close exit e ends w = by_exit close exit e ends w (exit w) refl
 
 -- the end of a run, from its turns on

@@ -65,13 +65,10 @@ gained_between {turn = turn} {console = console} c w i j le =
 
 -- after a slice the console has what it had before it, and the gain
 pub slice_appends : {turn : WatchWorld → WatchWorld} {console : WatchWorld → List ℕ} {exit : WatchWorld → Option Exit}
-    {steps : WatchWorld → ℕ}
-    (c : Client turn console exit steps) (w : WatchWorld) (n bound k : ℕ) →
+    {steps : WatchWorld → ℕ} (c : Client turn console exit steps) (w : WatchWorld) (n bound k : ℕ) →
     (own_run turn console steps bound w).console ((k + 1) * n)
     ≡ (own_run turn console steps bound w).console (k * n) ++ gain n (own_run turn console steps bound w) k
-slice_appends c w n bound k =
-    let next = next_start k n in
-    gained_between c w (min (k * n) bound) (min ((k + 1) * n) bound) (omega arith)
+slice_appends c w n bound k = let next = next_start k n in gained_between c w (min (k * n) bound) (min ((k + 1) * n) bound) (omega arith)
 
 -- ---- lines one after another
 

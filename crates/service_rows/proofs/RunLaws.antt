@@ -32,9 +32,7 @@ index_passed test index end below e =
     ap (first_index test index) k ∙ fails test index (end - (index + 1)) e
 
 pub index_missed : (test : ℕ → Bool) (index end : ℕ) → end ≤ index → first_index test index (end - index) ≡ None
-index_missed test index end beyond =
-    let k : end - index ≡ 0 = omega arith in
-    ap (first_index test index) k ∙ none_left test index
+index_missed test index end beyond = let k : end - index ≡ 0 = omega arith in ap (first_index test index) k ∙ none_left test index
 
 -- the answer, from what is true of it
 pub is_first : (test : ℕ → Bool) (from left first : ℕ) → from ≤ first → first < from + left → test first ≡ true →

@@ -72,9 +72,7 @@ interrupt_round h s =
     }
 
 turn_round : (w : WatchWorld) → IsReached w.host → KeepsRound from_client w.host (turn_with_watchpoints w).host
-turn_round w s =
-    let k = turn_keeps_all w s in
-    record { reached = k.reached; calls = k.calls; sound = k.sound; leaves = k.leaves }
+turn_round w s = let k = turn_keeps_all w s in record { reached = k.reached; calls = k.calls; sound = k.sound; leaves = k.leaves }
 
 part_keeps : (t : TimerState) (h : HostWorld) → IsReached h → KeepsRound from_outside h (timer_part t h).host
 part_keeps t h s =

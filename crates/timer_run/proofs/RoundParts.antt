@@ -85,8 +85,7 @@ pub answered_on : (p : TimerPart) (answer : Bool) → Ok answer ≡ timer_answer
 answered_on p answer is = on_by p.host.exit p.taken answer is
 
 ended_by : (o : Option Exit) (taken : Bool) (end : Exit) →
-    Err end ≡ elim o as (λ _. Result Bool Exit) [ Some exit ↦ Err exit | None ↦ Ok taken ] →
-    o ≡ Some end
+    Err end ≡ elim o as (λ _. Result Bool Exit) [ Some exit ↦ Err exit | None ↦ Ok taken ] → o ≡ Some end
 ended_by None taken end is = cc
 ended_by (Some exit) taken end is = cc
 
@@ -95,8 +94,7 @@ answered_exit p exit is = ended_by p.host.exit p.taken exit is
 
 -- ---- after an exit, and without one
 
-round_is : (every : ℕ) (w : TimedWorld) (o : Option Exit) → w.watched.host.exit ≡ o →
-    round_with_timer every w
+round_is : (every : ℕ) (w : TimedWorld) (o : Option Exit) → w.watched.host.exit ≡ o → round_with_timer every w
     ≡ elim o as (λ _. TimedWorld) [ Some _ ↦ w | None ↦ after_part w (timer_part (timer_of every w) w.watched.host) ]
 unfolding round_with_timer
 round_is every w o is =

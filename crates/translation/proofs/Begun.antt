@@ -59,13 +59,11 @@ runs w call e =
     let service = call_service w call (structure_regs s) (structure_flags s) in
     runs_by w call (structure_regs s) (structure_flags s) (none_refused (first_reason service.reasons) w service.after e)
 
-pub begun_world : (w : World) (call : Call) → (begin_call w call).carry ≡ Clear →
-    (begin_call w call).world
+pub begun_world : (w : World) (call : Call) → (begin_call w call).carry ≡ Clear → (begin_call w call).world
     ≡ called_world w call (structure_regs (structure_bytes w (es_di w))) (structure_flags (structure_bytes w (es_di w)))
     (call_words w call (structure_flags (structure_bytes w (es_di w))))
 unfolding begin_call
-begun_world w call e =
-    let s = structure_bytes w (es_di w) in world_after w call (structure_regs s) (structure_flags s) e
+begun_world w call e = let s = structure_bytes w (es_di w) in world_after w call (structure_regs s) (structure_flags s) e
 
 pub refused_world : (w : World) (call : Call) → (begin_call w call).carry ≡ Set → HasOtherAx w (begin_call w call).world
 unfolding begin_call

@@ -69,8 +69,7 @@ open_structure w at s there =
     record { sound = s; few = omega arith; read = structure_read w at there; write = structure_written w at there }
 
 open_after : (w : World) (at q : FarPtr) (m : ℕ) (bytes : List ℕ) → IsOpen w at STRUCTURE_SIZE →
-    IsSound (world_after_far_write w q m bytes) →
-    IsOpen (world_after_far_write w q m bytes) at STRUCTURE_SIZE
+    IsSound (world_after_far_write w q m bytes) → IsOpen (world_after_far_write w q m bytes) at STRUCTURE_SIZE
 open_after w at q m bytes before s = grind (arith, reachable_after)
 
 results_back : (w : World) (at : FarPtr) → IsSound w → has_structure w at ≡ true →
@@ -123,8 +122,7 @@ ended_is w call saved on at u s there popped is =
     }
 
 pub has_ended : (w u : World) → IsSound w → end_call w ≡ Ok u → HasEnded w u
-has_ended w u s e =
-    let done = is_return w u e in ended_is w done.call done.saved done.on done.at u s done.there done.popped done.is
+has_ended w u s e = let done = is_return w u e in ended_is w done.call done.saved done.on done.at u s done.there done.popped done.is
 
 -- ---- a call and a reflection
 

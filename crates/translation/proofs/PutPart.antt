@@ -108,8 +108,7 @@ byte_before w p n i run e inside =
     ∙ ap (byte_of w) (places_from-at w.blocks (start w p n run) n i Nothing inside)
 
 byte_after : (w : World) (q : List Place) (bytes : List ℕ) (p : FarPtr) (n i : ℕ) (run : Reached w p n true) →
-    is_reachable w p n false ≡ true → i < n →
-    get_or (far_bytes (with_bytes_of w q bytes) p n) i 0
+    is_reachable w p n false ≡ true → i < n → get_or (far_bytes (with_bytes_of w q bytes) p n) i 0
     ≡ byte_of (with_bytes_of w q bytes) (place_in w.blocks (linear (start w p n run + i)))
 byte_after w q bytes p n i run e inside =
     let u = with_bytes_of w q bytes in
@@ -129,8 +128,7 @@ part_places w p n k m run e within =
     (reachable_linear w (further p k) m run.base true base (parts_reachable w p n k m true e within))
 
 apart : (w : World) (p : FarPtr) (n k m i : ℕ) (run : Reached w p n true) → n ≤ PAGE_SIZE → k + m ≤ n → i < n →
-    (k + m ≤ i) ⊎ (i < k) → (j : ℕ) →
-    j < length (places_from w.blocks ((run.base + (p.off + k)) % 2 ^ 32) m) →
+    (k + m ≤ i) ⊎ (i < k) → (j : ℕ) → j < length (places_from w.blocks ((run.base + (p.off + k)) % 2 ^ 32) m) →
     slice_index_or (places_from w.blocks ((run.base + (p.off + k)) % 2 ^ 32) m) j Nothing
     ≡ place_in w.blocks (linear (start w p n run + i)) → ⊥
 apart w p n k m i run few within inside away j less e =

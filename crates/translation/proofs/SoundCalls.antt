@@ -161,8 +161,7 @@ some_width None w some is s = absurd (some refl)
 some_width (Some width) w some is s = IsSound-mode w Protected width s is
 
 sound_after : (w : World) (call : Call) (saved : Regs) (on : Bool) (at : FarPtr) → IsSound w → 0 < depth w →
-    HasSegments (client_regs w call saved) →
-    IsSound (after_return w call saved on at)
+    HasSegments (client_regs w call saved) → IsSound (after_return w call saved on at)
 unfolding after_return
 sound_after w call saved on at s some segments = grind (arith, either, has_width, length-take-le, results_alone, some_width)
 
@@ -182,8 +181,7 @@ call_segments w call r n s h =
 
 sound_by_carry : (carry : Carry) (w : World) (call : Call) → IsSound w → w.mode ≡ Protected → (begin_call w call).carry ≡ carry →
     IsSound (begin_call w call).world
-sound_by_carry Set w call s mode e =
-    let refused = refused_world w call e in subst IsSound (sym refused.1) (sound_ax w refused.0 s)
+sound_by_carry Set w call s mode e = let refused = refused_world w call e in subst IsSound (sym refused.1) (sound_ax w refused.0 s)
 sound_by_carry Clear w call s mode e =
     let bytes = structure_bytes w (es_di w) in
     let r = structure_regs bytes in
@@ -210,5 +208,4 @@ unfolding after_reflection
 sound_made w n s mode room = grind (arith, protected_by, reflected_segments, sound_callee)
 
 pub sound_reflect : (w u : World) (n : ℕ) → IsSound w → w.mode ≡ Protected → reflect w n ≡ Ok u → IsSound u
-sound_reflect w u n s mode e =
-    let made = is_made w u n e in subst IsSound (sym made.is) (sound_made w n s mode made.room)
+sound_reflect w u n s mode e = let made = is_made w u n e in subst IsSound (sym made.is) (sound_made w n s mode made.room)

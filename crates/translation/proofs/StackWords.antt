@@ -126,16 +126,14 @@ low_word offset small = grind (arith, nat_tests)
 one_less : (k n : ℕ) → k < n → n - k ≡ suc (n - (k + 1))
 one_less k n h = omega arith
 
-pub writable_step : (segment offset k n : ℕ) → k < n →
-    are_writable_words segment offset (n - k)
+pub writable_step : (segment offset k n : ℕ) → k < n → are_writable_words segment offset (n - k)
     ≡ (is_writable_word segment offset && are_writable_words segment (next_word offset) (n - (k + 1)))
 writable_step segment offset k n h = ap (are_writable_words segment offset) (one_less k n h)
 
 pub writable_end : (segment offset k n : ℕ) → n ≤ k → are_writable_words segment offset (n - k) ≡ true
 writable_end segment offset k n h = let e : n - k ≡ zero = omega arith in ap (are_writable_words segment offset) e
 
-pub put_step : (dos : List ℕ) (segment offset i : ℕ) (xs : List ℕ) → i < length xs →
-    with_words_at dos segment offset (drop i xs)
+pub put_step : (dos : List ℕ) (segment offset i : ℕ) (xs : List ℕ) → i < length xs → with_words_at dos segment offset (drop i xs)
     ≡ with_words_at (with_word_at dos segment offset (get_or xs i 0)) segment (next_word offset) (drop (i + 1) xs)
 put_step dos segment offset i xs h = grind (arith, add-one, drop-cons)
 
@@ -165,8 +163,7 @@ pub readable_more : (w : World) (k n : ℕ) (all : Bool) → k < n → is_ok (cl
 readable_more w k n all h ok e = e ∙ readable_step w k n h ∙ ap (λ (b : Bool). b && are_readable_words w (k + 1) (n - (k + 1))) ok
 
 pub words_more : (w : World) (k n word : ℕ) (before after all : List ℕ) → k < n → word_read (client_word w k) ≡ word →
-    after ≡ before ++ word ∷ [] →
-    before ++ client_words w k (n - k) ≡ all → after ++ client_words w (k + 1) (n - (k + 1)) ≡ all
+    after ≡ before ++ word ∷ [] → before ++ client_words w k (n - k) ≡ all → after ++ client_words w (k + 1) (n - (k + 1)) ≡ all
 words_more w k n word before after all h is pushed e = grind (arith, append_assoc, words_step)
 
 -- ---- the rules of real mode

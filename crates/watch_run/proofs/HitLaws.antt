@@ -99,9 +99,7 @@ bits_room at touched slots k all less =
 
 pub bits_all : (at : ℕ) (touched : Option (List Touch)) (slots : List (Option Watch)) (k : ℕ) → 16 ≤ k →
     hit_bits at touched (drop (16 - k) slots) ≡ hit_bits at touched slots
-bits_all at touched slots k done =
-    let none : 16 - k ≡ 0 = omega arith in
-    ap (λ (n : ℕ). hit_bits at touched (drop n slots)) none
+bits_all at touched slots k done = let none : 16 - k ≡ 0 = omega arith in ap (λ (n : ℕ). hit_bits at touched (drop n slots)) none
 
 pub bits_start : (at : ℕ) (touched : Option (List Touch)) (slots : List (Option Watch)) → length slots ≡ 16 →
     hit_bits at touched (drop (16 - 0) slots) ≡ 0

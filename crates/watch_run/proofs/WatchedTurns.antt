@@ -42,8 +42,7 @@ has P w same x y z =
 
 -- ---- the exit, the count of turns and the console
 
-turn_is : (w : WatchWorld) (o : Option Exit) → w.host.exit ≡ o →
-    turn_with_watchpoints w
+turn_is : (w : WatchWorld) (o : Option Exit) → w.host.exit ≡ o → turn_with_watchpoints w
     ≡ elim o as (λ _. WatchWorld) [ Some _ ↦ w | None ↦ if delivers_hit w then after_hit_exception w else after_turn_or_call w ]
 unfolding turn_with_watchpoints
 turn_is w o is =

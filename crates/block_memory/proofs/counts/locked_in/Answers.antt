@@ -11,8 +11,7 @@ bit_few n bit e = elim (cases_eq n 0) [
 ]
 
 pub loop-page-init : goal.loop-page-init
-loop-page-init c =
-    record { so_far = sym (run_none (locks_part c.args.ram.now) c.args.first) }
+loop-page-init c = record { so_far = sym (run_none (locks_part c.args.ram.now) c.args.first) }
 
 pub loop-page-preserved : goal.loop-page-preserved
 loop-page-preserved c =

@@ -15,5 +15,4 @@ returns-then-not-is_set-clause-packs c =
     (packs-described b c.told-b (λ i small. c.fits-b i) whole)
 
 pub returns-then-not-is_set-clause-fits : goal.returns-then-not-is_set-clause-fits
-returns-then-not-is_set-clause-fits c =
-    subst FitsDescriptor (sym c.describe.ensures) (fits-described c.args.b.now (λ i _. c.fits-b i))
+returns-then-not-is_set-clause-fits c = subst FitsDescriptor (sym c.describe.ensures) (fits-described c.args.b.now (λ i _. c.fits-b i))

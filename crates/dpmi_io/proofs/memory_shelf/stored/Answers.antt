@@ -7,5 +7,4 @@ returns-in-Some c =
     ap Some c.as_slice.ensures.value ∙ ap bytes_of c.in-Some.ensures.value ∙ sym (get-files_of c.args.files.now c.args.name.now)
 
 pub returns-in-None : goal.returns-in-None
-returns-in-None c =
-    ap bytes_of c.in-None.ensures.value ∙ sym (get-files_of c.args.files.now c.args.name.now)
+returns-in-None c = ap bytes_of c.in-None.ensures.value ∙ sym (get-files_of c.args.files.now c.args.name.now)

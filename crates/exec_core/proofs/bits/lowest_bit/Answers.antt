@@ -3,12 +3,10 @@ use Rattle.exec_core.proofs.BitLaws.{lowest_here, lowest_further, none_lower}
 use Rattle.exec_core.proofs.bits.lowest_bit.Goals as goal
 
 pub returns-then-v-eq1 : goal.returns-then-v-eq1
-returns-then-v-eq1 c =
-    let here = lowest_here c.loop-k.v c.loop-k.k c.args.width c.loop-k-test.true c.if-v-eq1.true in cc
+returns-then-v-eq1 c = let here = lowest_here c.loop-k.v c.loop-k.k c.args.width c.loop-k-test.true c.if-v-eq1.true in cc
 
 pub loop-k-preserved : goal.loop-k-preserved
-loop-k-preserved c =
-    let further = lowest_further c.loop-k.v c.loop-k.k c.args.width c.loop-k-test.true c.if-v-eq1.false in cc
+loop-k-preserved c = let further = lowest_further c.loop-k.v c.loop-k.k c.args.width c.loop-k-test.true c.if-v-eq1.false in cc
 
 pub returns : goal.returns
 returns c =

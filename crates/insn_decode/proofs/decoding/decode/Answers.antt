@@ -11,12 +11,10 @@ result_is : (c : goal.After-answer) → c.answer.result ≡ decoded c.args.big c
 result_is c = c.answer.ensures.exact ∙ ap (decoded c.args.big) c.as_slice.ensures.value
 
 pub returns-clause-whole : goal.returns-clause-whole
-returns-clause-whole c =
-    λ insn len e. decoded_whole c.args.big insn len c.args.bytes.now.items (are_bytes c) (sym (result_is c) ∙ e)
+returns-clause-whole c = λ insn len e. decoded_whole c.args.big insn len c.args.bytes.now.items (are_bytes c) (sym (result_is c) ∙ e)
 
 pub returns-clause-only : goal.returns-clause-only
-returns-clause-only c = λ insn front rest e s. result_is c
-    ∙ decoded_only c.args.big insn front rest c.args.bytes.now.items e s
+returns-clause-only c = λ insn front rest e s. result_is c ∙ decoded_only c.args.big insn front rest c.args.bytes.now.items e s
 
 pub returns-clause-more : goal.returns-clause-more
 returns-clause-more c = (

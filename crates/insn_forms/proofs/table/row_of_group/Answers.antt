@@ -8,5 +8,4 @@ returns-then-reg-lt8 c = picked c.args.reg c.args.rows.now
 
 -- past the last row there is none
 pub returns-else-reg-lt8 : goal.returns-else-reg-lt8
-returns-else-reg-lt8 c =
-    sym (get_or_past c.args.rows.now c.args.reg (no_row Empty Empty) (omega arith)) ∙ picked c.args.reg c.args.rows.now
+returns-else-reg-lt8 c = sym (get_or_past c.args.rows.now c.args.reg (no_row Empty Empty) (omega arith)) ∙ picked c.args.reg c.args.rows.now

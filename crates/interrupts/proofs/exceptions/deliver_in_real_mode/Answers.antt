@@ -6,8 +6,7 @@ use Rattle.interrupts.proofs.exceptions.deliver_in_real_mode.Goals as goal
 
 pub returns-then-not-has_real_vector-clause-world : goal.returns-then-not-has_real_vector-clause-world
 unfolding real_delivery
-returns-then-not-has_real_vector-clause-world c =
-    delivery_err c.args.m.now c.args.f (Fault c.args.f.number c.args.f.code) (search rules)
+returns-then-not-has_real_vector-clause-world c = delivery_err c.args.m.now c.args.f (Fault c.args.f.number c.args.f.code) (search rules)
 
 pub returns-in-Ok-clause-world : goal.returns-in-Ok-clause-world
 unfolding real_delivery

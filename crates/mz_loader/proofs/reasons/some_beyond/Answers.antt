@@ -15,6 +15,4 @@ loop-i-preserved c =
     ∙ c.loop-i.invariant
 
 pub returns : goal.returns
-returns c =
-    sym (some_beyond_end c.args.file.now c.args.limit c.args.at c.args.n c.loop-i.i c.loop-i-test.false)
-    ∙ c.loop-i.invariant
+returns c = sym (some_beyond_end c.args.file.now c.args.limit c.args.at c.args.n c.loop-i.i c.loop-i-test.false) ∙ c.loop-i.invariant

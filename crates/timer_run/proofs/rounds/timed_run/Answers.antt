@@ -6,8 +6,7 @@ use Rattle.timer_run.proofs.RoundParts.{run_bounded, run_ended, run_goes_on, run
 use Rattle.timer_run.proofs.rounds.timed_run.Goals as goal
 
 pub returns-in-Some-clause-world : goal.returns-in-Some-clause-world
-returns-in-Some-clause-world c =
-    run_over c.args.every c.args.host.now.world c.args.bound c.in-Some.exit (sym c.in-Some.ensures)
+returns-in-Some-clause-world c = run_over c.args.every c.args.host.now.world c.args.bound c.in-Some.exit (sym c.in-Some.ensures)
 
 pub loop-count-init : goal.loop-count-init
 loop-count-init c = (

@@ -21,8 +21,7 @@ first_entry : (b c : List ℕ) → Blank b c → dword c 0x100000 ≡ 0x101067
 first_entry b c h = rw h.new (dword_put b 0x100000 0x101067 (let l = h.long in omega arith))
 
 elsewhere : (b c : List ℕ) (p : ℕ) → Blank b c → 0x100000 + 4 ≤ p → dword c p ≡ 0
-elsewhere b c p h above = rw h.new
-    (dword_put_other b 0x100000 p 0x101067 (inl above) ∙ dword_zero b p (λ i l. h.blank (p + i)))
+elsewhere b c p h above = rw h.new (dword_put_other b 0x100000 p 0x101067 (inl above) ∙ dword_zero b p (λ i l. h.blank (p + i)))
 
 tables_of : (b c : List ℕ) → Blank b c → HasTables c
 tables_of b c h = one_table c (let l = h.long in rw (h.new, length-put b 0x100000 (dword_bytes 0x101067)) (omega arith))

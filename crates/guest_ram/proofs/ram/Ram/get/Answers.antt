@@ -12,8 +12,7 @@ taken b run at i v e r within room =
     ∙ ap (λ (xs : List ℕ). xs ++ v ∷ []) e ∙ ap (λ (x : ℕ). region b at i ++ x ∷ []) r ∙ sym (region_more b at i room)
 
 whole : (b run : List ℕ) (at n i : ℕ) → length run ≡ n → i ≡ n → take i run ≡ region b at i → run ≡ region b at n
-whole b run at n i long e t =
-    sym (take_all i run (omega (arith, long))) ∙ t ∙ ap (region b at) e
+whole b run at n i long e t = sym (take_all i run (omega (arith, long))) ∙ t ∙ ap (region b at) e
 
 pub loop-i-init : goal.loop-i-init
 loop-i-init g c = (length-replicate g.row.N 0, sym (no_bytes c.args.self.now c.args.at))
