@@ -1,6 +1,6 @@
 -- Which pages are blocks', and changes of one page after another.
-use Rattle.std.proofs.Common.{◌≡◌, ◌≤◌, ◌<◌, ◌+◌, ◌-◌, ◌*◌, ◌⊎◌, inl, inr, ℕ, suc, Bool, true, false, List, [], ◌∷◌, length, slice_set}
-use Rattle.std.proofs.{Common.{refl, sym, ◌∙◌, ap, arith, Option, None, Some}, lemmas.Bool.{cases_Bool}}
+use Rattle.std.proofs.Common.{◌≡◌, ◌≤◌, ◌<◌, ◌+◌, ◌-◌, ◌*◌, ◌⊎◌, inl, inr, ℕ, suc, Bool, true, false, List, [], ◌∷◌, slice_set, refl, sym}
+use Rattle.std.proofs.{Common.{◌∙◌, ap, arith, Option, None, Some}, lemmas.Bool.{cases_Bool}}
 use Rattle.client_world.specs.{declared.host_frames.TheConstants.{PAGE_SIZE}, declared.memory_map.TheConstants.{BLOCK_REGION}}
 use Rattle.client_world.specs.{declared.memory_map.TheConstants.{BLOCK_REGION_END}, declared.place.Place.{Place}}
 use Rattle.client_world.specs.{declared.place.Place.TheVariants.{Dos, Block, Host, Nothing}, Access.{block_place, covers, may_touch}}

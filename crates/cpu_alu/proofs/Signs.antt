@@ -1,5 +1,5 @@
 -- Bits of sums by XOR and AND.
-use Rattle.std.proofs.Common.{◌≡◌, ℕ, ◌+◌, ◌-◌, ◌/◌, ◌%◌, ◌^◌, ◌<◌, ◌&&◌, ◌∙◌, ap, arith, rules, inl, inr, nat_eq, nat_le, nat_lt}
+use Rattle.std.proofs.Common.{◌≡◌, ℕ, ◌+◌, ◌-◌, ◌/◌, ◌%◌, ◌^◌, ◌<◌, ◌&&◌, ap, arith, rules, inl, inr, nat_eq, nat_le, nat_lt}
 use Rattle.std.proofs.lemmas.Nat.Bits.{bit_at_and, bit_at_xor}
 use Rattle.std.specs.Int.Bits.{bit_and, bit_xor}
 use Rattle.cpu_values.specs.Word.{IsWidth, cut}

@@ -1,5 +1,5 @@
--- The code bytes: in a sound world they are bytes, and where they are fewer than an instruction may have, the next one can't be fetched.
--- What the grammar says of the next instruction is what reading them from left to right gives.
+-- The code bytes: in a sound world they are bytes, and where they are fewer than an instruction may have, the next one can't be fetched;
+-- what the grammar says of the next instruction is what reading them from left to right gives.
 use Rattle.std.proofs.Common.{◌≡◌, ℕ, zero, suc, ◌+◌, ◌<◌, ◌≤◌, false, List, [], ◌∷◌, length, slice_index, refl, ap, ◌∙◌, sym, subst, arith}
 use Rattle.std.proofs.{Common.{Option, None, Some, Result, Ok, Err, ◌⊎◌, inl, inr, ◌++◌, take, drop, zero-add}, lemmas.Bool.{cases_eq}}
 use Rattle.std.proofs.{lemmas.Bool.Decides.{nat_tests}, lemmas.List.{take-append-drop, length-take-le}}

@@ -1,12 +1,12 @@
--- An instruction has touches exactly where it is no event. Those that write have the places that it writes.
+-- An instruction has touches exactly where it is no event; those that write have the places that it writes.
 use Rattle.std.proofs.Common.{◌≡◌, ℕ, List, [], ◌∷◌, ◌++◌, refl, ap, sym, ◌∙◌, subst, Option, None, Some, Result, Ok, Err, Bool, false}
 use Rattle.std.proofs.Common.{append_assoc, append-nil, if◌then◌else◌}
 use Rattle.std.specs.Prelude.{IsErr, IsOk, is_err, is_ok}
-use Rattle.client_world.specs.{declared.faults.Event.{Event}, declared.faults.Event.TheVariants.{Fault as fault}}
-use Rattle.client_world.specs.{declared.faults.Fault.{Fault}, World.{World}, declared.watchpoints.Touch.{Touch}}
-use Rattle.client_world.specs.{declared.place.Place.{Place}, Access.{places_from}}
+use Rattle.client_world.specs.{declared.faults.Event.{Event}, declared.faults.Fault.{Fault}, World.{World}}
+use Rattle.client_world.specs.{declared.watchpoints.Touch.{Touch}, declared.place.Place.{Place}, Access.{places_from}}
 use Rattle.guest_space.specs.{declared.pending.Write.{Write}, Pending.{first_write_fault, write_fault, after_writes, places_of_writes}}
 use Rattle.host_memory.specs.View.{MachineView}
+use Rattle.insn_plan.proofs.WrittenState.{unless, settled_unless}
 use Rattle.insn_plan.specs.{declared.accesses.Access.{Access}, Accesses.{and_read, and_writes, accesses_after, touch_of_access, touch_of}}
 use Rattle.insn_plan.specs.{Accesses.{touches_after, touches_where, touches}, Act.{Act, End, Read, Done, Raise, Interrupt, Input, Given}}
 use Rattle.insn_plan.specs.{Act.{From, Pending, value_of}, Plan.{plan_result, after_plan, after_commit, with_state}}
@@ -113,29 +113,15 @@ not_none w done (a ∷ rest) all e =
 
 -- ---- what it comes to
 
-abbrev committed : Option Fault → MachineView → Result MachineView Event
-committed None u = Ok u
-committed (Some f) u = Err (fault f)
-
-committed_is : (o : Option Fault) (u : MachineView) → elim o as (λ _. Result MachineView Event) [ Some f ↦ Err (fault f) | None ↦ Ok u ]
-    ≡ committed o u
-committed_is None u = refl
-committed_is (Some f) u = refl
-
-commit_is : (v : MachineView) (p : Pending) →
-    after_commit v p ≡ committed (first_write_fault v.world p.writes) (with_state p.regs p.vif (after_writes v p.writes))
-unfolding after_commit
-commit_is v p = committed_is (first_write_fault v.world p.writes) (with_state p.regs p.vif (after_writes v p.writes))
-
 committed_ok : (v : MachineView) (p : Pending) → first_write_fault v.world p.writes ≡ None → IsOk (after_commit v p)
 committed_ok v p e =
     ap (λ (r : Result MachineView Event). is_ok r)
-    (commit_is v p ∙ ap (λ (o : Option Fault). committed o (with_state p.regs p.vif (after_writes v p.writes))) e)
+    (settled_unless v p ∙ ap (λ (o : Option Fault). unless o (with_state p.regs p.vif (after_writes v p.writes))) e)
 
 committed_err : (v : MachineView) (p : Pending) (f : Fault) → first_write_fault v.world p.writes ≡ Some f → IsErr (after_commit v p)
 committed_err v p f e =
     ap (λ (r : Result MachineView Event). is_err r)
-    (commit_is v p ∙ ap (λ (o : Option Fault). committed o (with_state p.regs p.vif (after_writes v p.writes))) e)
+    (settled_unless v p ∙ ap (λ (o : Option Fault). unless o (with_state p.regs p.vif (after_writes v p.writes))) e)
 
 some_or_none : (list : List Touch) → ¬ (Some list ≡ None)
 some_or_none list e = absurd cc

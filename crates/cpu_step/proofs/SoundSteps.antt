@@ -1,4 +1,4 @@
--- Writes leave a sound world sound, and so do a plan whose segment registers hold words and a step of the client's. A window of code
+-- Writes leave a sound world sound, and so do a plan whose segment registers hold words and a step of the client's; a window of code
 -- outlives a step that keeps CS.
 use Rattle.std.proofs.Common.{◌≡◌, ℕ, zero, suc, ◌/◌, ◌%◌, ◌<◌, List, [], ◌∷◌, length, slice_index, refl, sym, subst, arith, nat_eq}
 use Rattle.std.proofs.Common.{if◌then◌else◌, Bool, true, false, Option, None, Some, Result, Ok, Err, ◌∙◌, ap}

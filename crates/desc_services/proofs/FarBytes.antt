@@ -1,4 +1,4 @@
--- The eight bytes of a packed descriptor are bytes, and what they are unpacked to fits. A limit in bytes is the last byte that is allowed.
+-- The eight bytes of a packed descriptor are bytes, and what they are unpacked to fits; a limit in bytes is the last byte that is allowed.
 use Rattle.std.proofs.Common.{◌≡◌, ◌%◌, ℕ, Bool, true, false, ◌&&◌, not, refl, arith, nat_lt, nat_eq, ◌≤◌, ◌<◌, ◌/◌, ◌^◌, inl, inr, List}
 use Rattle.std.proofs.{Common.{[], ◌∷◌, subst, None, Some}, lemmas.Bool.{eqb-true, not-false, cases_Bool, cond-true, cond-false}}
 use Rattle.client_world.specs.{declared.descriptors.Desc.{Desc}, Descriptor.{byte_limit, FitsDescriptor, access_byte, flags_byte}}

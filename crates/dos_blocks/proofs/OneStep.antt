@@ -1,4 +1,4 @@
--- The services in one step: what they put at the place of the block that they find. One that is refused changes AX and BX alone.
+-- The services in one step: what they put at the place of the block that they find; one that is refused changes AX and BX alone.
 use Rattle.std.proofs.Common.{◌≡◌, ℕ, ◌+◌, ◌-◌, Bool, true, false, [], ◌∷◌, refl, ap, ◌∙◌, sym, Option, Some, None, Ok, Err, if◌then◌else◌}
 use Rattle.std.proofs.{Common.{nat_le, nat_lt, arith, nat_eq, subst, Result}, lemmas.Bool.{and_parts, cond-true}}
 use Rattle.client_world.specs.declared.dos_memory.DosRefusal.TheVariants.{NoMemory, WrongBlock}

@@ -1,4 +1,4 @@
--- What each call puts into the arena leaves one, and neither takes out nor puts in a block of INT 31h function 0100h. What each service
+-- What each call puts into the arena leaves one, and neither takes out nor puts in a block of INT 31h function 0100h; what each service
 -- puts into the arena and among the descriptors may be put.
 use Rattle.std.proofs.Common.{◌≡◌, ℕ, ◌+◌, ◌-◌, ◌<◌, ◌≤◌, Bool, true, false, List, [], ◌∷◌, length, refl, arith, ◌≢◌, zero, suc, inl, inr}
 use Rattle.std.proofs.{Common.{get_or, Some, None}, lemmas.Bool.{false≢true, cases_order, eq-eqb, ne_eqb}, lemmas.List.{get_or_past}}

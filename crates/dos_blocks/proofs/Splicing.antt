@@ -1,4 +1,4 @@
--- Entries in place of others that fill the same paragraphs leave an arena, where none of them is free beside a free one. A block at the
+-- Entries in place of others that fill the same paragraphs leave an arena, where none of them is free beside a free one; a block at the
 -- start of some paragraphs, and the rest of them; and the entries beside a block.
 use Rattle.std.proofs.Common.{◌≡◌, ℕ, zero, suc, ◌+◌, ◌<◌, ◌≤◌, Bool, true, false, List, [], ◌∷◌, ◌++◌, length, get_or, take, drop, refl}
 use Rattle.std.proofs.{Common.{ap, ◌∙◌, sym, subst, arith, zero-add, ◌-◌, ◌&&◌, nat_le}, lemmas.List.{take-append-drop, get_or_past}}

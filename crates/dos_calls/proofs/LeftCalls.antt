@@ -78,10 +78,6 @@ by_key : (s : CallState) (rest : ℕ → List ℕ → CallResult) (keys : List �
 by_key s rest [] leaves = leaves_ended s NoKeys
 by_key s rest (key ∷ keys) leaves = leaves key keys
 
-leaves_read_echo : (s : CallState) → Leaves s (calls.read_echo s)
-unfolding calls.read_echo
-leaves_read_echo s = by_key s _ s.keys (λ key keys. leaves_printed s _ _ keys refl)
-
 leaves_write_character : (s : CallState) → Leaves s (calls.write_character s)
 unfolding calls.write_character
 leaves_write_character s = leaves_printed s _ s.world s.keys refl
@@ -96,14 +92,6 @@ unfolding calls.direct_console
 leaves_direct_console s =
     leaves_if s (nat_eq (low_byte s.world.regs.edx) 0xFF) _ _ (leaves_poll s.world s.keys s.console) (leaves_write_character s)
 
-leaves_read_key : (s : CallState) → Leaves s (calls.read_key s)
-unfolding calls.read_key
-leaves_read_key s = by_key s _ s.keys (λ key keys. leaves_served s _ keys refl)
-
-leaves_write_text : (s : CallState) → Leaves s (calls.write_text s)
-unfolding calls.write_text
-leaves_write_text s = leaves_printed s _ s.world s.keys refl
-
 leaves_line : (s : CallState) (n : ℕ) (o : Option (List ℕ × List ℕ)) → Leaves s (line_result s n o)
 leaves_line s n None = leaves_ended s NoKeys
 leaves_line s n (Some line) = leaves_printed s _ _ line.1 refl
@@ -113,28 +101,6 @@ unfolding calls.read_line
 leaves_read_line s =
     let n = byte_at s.world.dos s.world.regs.ds (low_half s.world.regs.edx) in
     leaves_if s (nat_eq n 0) _ _ (leaves_served s s.world s.keys refl) (leaves_line s n (line_of s.keys))
-
-leaves_ask_key : (s : CallState) → Leaves s (calls.ask_key s)
-unfolding calls.ask_key
-leaves_ask_key s = leaves_served s _ s.keys refl
-
--- ---- vectors, version, prefix
-
-leaves_set_vector : (s : CallState) → Leaves s (calls.set_vector s)
-unfolding calls.set_vector
-leaves_set_vector s = leaves_served s _ s.keys refl
-
-leaves_version : (s : CallState) → Leaves s (calls.dos_version s)
-unfolding calls.dos_version
-leaves_version s = leaves_served s _ s.keys refl
-
-leaves_get_vector : (s : CallState) → Leaves s (calls.get_vector s)
-unfolding calls.get_vector
-leaves_get_vector s = leaves_served s _ s.keys refl
-
-leaves_get_prefix : (s : CallState) → Leaves s (calls.get_prefix s)
-unfolding calls.get_prefix
-leaves_get_prefix s = leaves_served s _ s.keys refl
 
 -- ---- files
 
@@ -213,36 +179,29 @@ leaves_resize s =
 
 -- ---- all of them
 
-leaves_terminate : (s : CallState) → Leaves s (calls.terminate s)
-unfolding calls.terminate
-leaves_terminate s = leaves_ended s _
-
-leaves_unknown : (s : CallState) → Leaves s (calls.unknown_function s)
-unfolding calls.unknown_function
-leaves_unknown s = leaves_served s _ s.keys refl
-
 pub call_leaves : (s : CallState) → Leaves s (dos_call s)
-unfolding dos_call
+unfolding dos_call calls.read_echo calls.read_key calls.write_text calls.ask_key calls.set_vector calls.dos_version calls.get_vector
+    calls.get_prefix calls.terminate calls.unknown_function
 call_leaves s =
     let ah = high_byte s.world.regs.eax in
-    leaves_if s (nat_eq ah 0x01) _ _ (leaves_read_echo s)
+    leaves_if s (nat_eq ah 0x01) _ _ (by_key s _ s.keys (λ key keys. leaves_printed s _ _ keys refl))
     (leaves_if s (nat_eq ah 0x02) _ _ (leaves_write_character s)
     (leaves_if s (nat_eq ah 0x06) _ _ (leaves_direct_console s)
-    (leaves_if s (nat_eq ah 0x07 || nat_eq ah 0x08) _ _ (leaves_read_key s)
-    (leaves_if s (nat_eq ah 0x09) _ _ (leaves_write_text s)
+    (leaves_if s (nat_eq ah 0x07 || nat_eq ah 0x08) _ _ (by_key s _ s.keys (λ key keys. leaves_served s _ keys refl))
+    (leaves_if s (nat_eq ah 0x09) _ _ (leaves_printed s _ s.world s.keys refl)
     (leaves_if s (nat_eq ah 0x0A) _ _ (leaves_read_line s)
-    (leaves_if s (nat_eq ah 0x0B) _ _ (leaves_ask_key s)
-    (leaves_if s (nat_eq ah 0x25) _ _ (leaves_set_vector s)
-    (leaves_if s (nat_eq ah 0x30) _ _ (leaves_version s)
-    (leaves_if s (nat_eq ah 0x35) _ _ (leaves_get_vector s)
+    (leaves_if s (nat_eq ah 0x0B) _ _ (leaves_served s _ s.keys refl)
+    (leaves_if s (nat_eq ah 0x25) _ _ (leaves_served s _ s.keys refl)
+    (leaves_if s (nat_eq ah 0x30) _ _ (leaves_served s _ s.keys refl)
+    (leaves_if s (nat_eq ah 0x35) _ _ (leaves_served s _ s.keys refl)
     (leaves_if s (nat_eq ah 0x3F) _ _ (leaves_read_file s)
     (leaves_if s (nat_eq ah 0x40) _ _ (leaves_write_file s)
     (leaves_if s (nat_eq ah 0x48) _ _ (leaves_allocate s)
     (leaves_if s (nat_eq ah 0x49) _ _ (leaves_free s)
     (leaves_if s (nat_eq ah 0x4A) _ _ (leaves_resize s)
-    (leaves_if s (nat_eq ah 0x4C) _ _ (leaves_terminate s)
-    (leaves_if s (nat_eq ah 0x62) _ _ (leaves_get_prefix s)
-    (leaves_unknown s)))))))))))))))))
+    (leaves_if s (nat_eq ah 0x4C) _ _ (leaves_ended s _)
+    (leaves_if s (nat_eq ah 0x62) _ _ (leaves_served s _ s.keys refl)
+    (leaves_served s _ s.keys refl)))))))))))))))))
 
 -- ---- INT 2Fh
 

@@ -1,4 +1,4 @@
--- A call leads from a sound world to a sound one: bytes of the megabyte, a flag and registers may be put. Where the keys are bytes, those
+-- A call leads from a sound world to a sound one: bytes of the megabyte, a flag and registers may be put; where the keys are bytes, those
 -- that are left are bytes, and so is what it writes.
 use Rattle.std.proofs.Common.{ℕ, ◌+◌, ◌<◌, List, [], ◌∷◌, arith, Bool, true, false, slice_index, ◌-◌, ◌*◌, ◌||◌, ◌++◌, length, take, drop}
 use Rattle.std.proofs.Common.{nat_eq, nat_le, if◌then◌else◌, Option, None, Some, Result, Ok, Err}

@@ -1,4 +1,4 @@
--- Writes to places of the client change the bytes of these places, and leave the host's frames, in which none of the places lies. So do
+-- Writes to places of the client change the bytes of these places, and leave the host's frames, in which none of the places lies; so do
 -- those of the client's next instruction and of its software interrupt.
 use Rattle.std.proofs.Common.{◌≡◌, ◌≢◌, ◌⊎◌, ℕ, suc, ◌+◌, ◌*◌, ◌<◌, ◌≤◌, true, List, [], ◌∷◌, length, slice_index, slice_index_or}
 use Rattle.std.proofs.Common.{slice_set, refl, sym, subst, arith, length-set, get_or-set_other, Result, Ok, Err, Option, None, Some}

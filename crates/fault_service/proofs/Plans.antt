@@ -1,4 +1,4 @@
--- What the plan of a return leaves: no write, and segment registers that are words. Where the innermost record is an exception's there is
+-- What the plan of a return leaves: no write, and segment registers that are words; where the innermost record is an exception's there is
 -- one, and popping the frame keeps it.
 use Rattle.std.proofs.Common.{◌≡◌, ℕ, ◌<◌, Bool, [], refl, Option, None, Some, Result, Ok, Err, arith, ◌-◌, true, List, ◌∷◌, length, ap}
 use Rattle.client_world.specs.{declared.faults.Event.{Event}, declared.faults.Event.TheVariants.{Fault as fault}}

@@ -1,4 +1,4 @@
--- At the handler the frame is read as it was written, and a return restores what a delivery saved. A delivery and a return of worlds: a
+-- At the handler the frame is read as it was written, and a return restores what a delivery saved; a delivery and a return of worlds: a
 -- delivery adds the record of its exception, and a return takes one away.
 use Rattle.std.proofs.Common.{◌≡◌, ◌≢◌, ℕ, ◌+◌, ◌-◌, ◌*◌, ◌<◌, ◌≤◌, ◌⊎◌, inl, inr, Bool, true, false, List, [], ◌∷◌, ◌++◌, length, take}
 use Rattle.std.proofs.{Common.{refl, ap, ◌∙◌, sym, subst, arith, Option, None, Some, Result, Ok, Err}, lemmas.List.{length-append}}

@@ -1,4 +1,4 @@
--- A delivery and a return: the bytes that they change. They lead from a sound world to a sound one, and depend on the world alone.
+-- A delivery and a return: the bytes that they change; they lead from a sound world to a sound one, and depend on the world alone.
 use Rattle.std.proofs.Common.{◌≡◌, ◌≢◌, ℕ, ◌-◌, ◌*◌, ◌<◌, ◌≤◌, Bool, true, false, List, [], refl, ap, ◌∙◌, sym, subst, arith, Option, None}
 use Rattle.std.proofs.{Common.{Some, Result, Ok, Err, ◌∷◌, length, take}, lemmas.Bool.{leb-false}, lemmas.List.{get_or_past, length-append}}
 use Rattle.std.proofs.lemmas.List.{length-take-le}

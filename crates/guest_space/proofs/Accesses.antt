@@ -1,4 +1,4 @@
--- An access through a segment register is an access from the linear address that the segment gives. A part of a run that a segment allows
+-- An access through a segment register is an access from the linear address that the segment gives; a part of a run that a segment allows
 -- is allowed too; and what a quick look decides.
 use Rattle.std.proofs.Common.{◌≡◌, ℕ, ◌+◌, ◌≤◌, ◌^◌, inl, inr, Bool, true, false, ◌&&◌, not, List, refl, arith, None, Some, Result, Ok, Err}
 use Rattle.std.proofs.{Common.{◌%◌, ap, ◌∙◌, sym}, lemmas.Bool.{cases_Bool, not-false}, lemmas.Bool.Decides.{nat_tests}}

@@ -1,5 +1,5 @@
 -- The three writes that put entries of DOS memory in place of others: moving the entries after, writing the new ones, and filling up with
--- zeros. They stay in the frames of the list, and leave there the bytes of the entries after them.
+-- zeros; they stay in the frames of the list, and leave there the bytes of the entries after them.
 use Rattle.std.proofs.Common.{◌≡◌, ℕ, ◌+◌, ◌-◌, ◌*◌, ◌<◌, ◌≤◌, inl, inr, List, length, get_or, ◌∙◌, sym, arith, length-append, length-drop}
 use Rattle.std.proofs.{Common.{◌⊎◌, refl, ap, zero-add, add_assoc}, lemmas.Bool.{cases_lt}, lemmas.Grind.{same_number_lists}}
 use Rattle.std.proofs.lemmas.List.{length-take}

@@ -1,4 +1,4 @@
--- Entries that fill the paragraphs from one up to another: how many they are, where each is, and what is beside it. Entries in place of
+-- Entries that fill the paragraphs from one up to another: how many they are, where each is, and what is beside it; entries in place of
 -- others, where INT 31h function 0100h made none of either: those that it made are the same, and so the descriptors of DOS blocks belong to
 -- entries still.
 use Rattle.std.proofs.Common.{◌≡◌, ℕ, zero, suc, ◌+◌, ◌<◌, ◌≤◌, List, [], ◌∷◌, length, get_or, ap, ◌∙◌, sym, arith, ◌⊎◌, inl, inr, true}

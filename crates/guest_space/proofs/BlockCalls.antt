@@ -1,4 +1,4 @@
--- The blocks that a machine's memory holds are those of its world. Blocks made, freed and resized by their handles: what each call asks of
+-- The blocks that a machine's memory holds are those of its world; blocks made, freed and resized by their handles: what each call asks of
 -- the memory, and the machine after it; and the rows and bytes of blocks, read.
 use Rattle.std.proofs.Common.{◌≡◌, ◌≢◌, ℕ, List, subst, Option, None, arith, zero, suc, ◌-◌, ◌<◌, ◌≤◌, length, slice_index_or, slice_set}
 use Rattle.std.proofs.Common.{length-set, get_or-set_same, refl, ap, ◌∙◌, sym, Some, ◌+◌, ◌*◌, ◌/◌, ◌%◌, slice_index}

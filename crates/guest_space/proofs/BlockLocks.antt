@@ -1,4 +1,4 @@
--- The lock counts of a machine's blocks, a page of one cleared, and their pages counted. Lock counts and cleared pages leave every place
+-- The lock counts of a machine's blocks, a page of one cleared, and their pages counted; lock counts and cleared pages leave every place
 -- where it is: a block keeps its base and the number of its bytes.
 use Rattle.std.proofs.Common.{◌≡◌, ℕ, zero, suc, ◌+◌, ◌*◌, List, [], ◌∷◌, set, get_or, refl, Option, None, Some, arith, ◌≢◌, ◌<◌, ◌≤◌, ◌⊎◌}
 use Rattle.std.proofs.{Common.{ap, ◌∙◌, sym, subst, ◌/◌, length}, lemmas.Bool.{cases_eq}}

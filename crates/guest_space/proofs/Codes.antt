@@ -1,4 +1,4 @@
--- Code bytes: one by one, all at once where they can be read together, and as words of the memory. Where one may be fetched, a near
+-- Code bytes: one by one, all at once where they can be read together, and as words of the memory; where one may be fetched, a near
 -- transfer may go.
 use Rattle.std.proofs.Common.{◌≡◌, ℕ, zero, suc, ◌+◌, ◌-◌, ◌%◌, ◌<◌, ◌≤◌, ◌^◌, false, List, [], ◌∷◌, ◌++◌, length, slice_index, refl, ap}
 use Rattle.std.proofs.Common.{◌∙◌, sym, arith, None, Some, Result, Ok, Err, add-zero, append_assoc, take, drop, get_or, ◌⊎◌, inl, inr, Bool}

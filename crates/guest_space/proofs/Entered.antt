@@ -1,5 +1,5 @@
--- The machine after the entry to protected mode: its memory holds a world with a width and the two descriptors of the host, which is sound.
--- Before the entry there are none.
+-- The machine after the entry to protected mode: its memory holds a world with a width and the two descriptors of the host, which is sound;
+-- before the entry there are none.
 use Rattle.std.proofs.Common.{◌≡◌, ◌≢◌, ℕ, List, length, slice_set, ◌∙◌, arith, Option, None, Some, get_or-set_same, get_or-set_other}
 use Rattle.std.proofs.Common.{length-set, Bool, ap, sym, subst}
 use Rattle.client_world.specs.{declared.registers.Width.{Width}, declared.host_frames.TheConstants.{DESCRIPTORS}}

@@ -1,4 +1,4 @@
--- A frame that holds some records: what is read from it, and the frame with one record more or one less. Bytes that are the same hold the
+-- A frame that holds some records: what is read from it, and the frame with one record more or one less; bytes that are the same hold the
 -- same record.
 use Rattle.std.proofs.Common.{◌≡◌, ℕ, ◌+◌, ◌<◌, ◌≤◌, List, get_or, refl, ap, ◌∙◌, sym, arith, add-zero, add_assoc, ◌≢◌, zero, suc, ◌-◌, ◌*◌}
 use Rattle.std.proofs.{Common.{◌⊎◌, inl, inr, [], ◌∷◌, ◌++◌, length, take, zero-add, length-append}, lemmas.Bool.{cases_lt, eq-eqb, ne_eqb}}

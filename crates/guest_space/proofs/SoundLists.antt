@@ -1,4 +1,4 @@
--- What is read of a sound world are bytes, and a byte that is put into the megabyte leaves it sound. So do other vectors, other callbacks,
+-- What is read of a sound world are bytes, and a byte that is put into the megabyte leaves it sound; so do other vectors, other callbacks,
 -- other pageable pages or other records: of these lists the lengths alone count, and before the entry there are no callbacks and no
 -- records.
 use Rattle.std.proofs.Common.{◌≡◌, ℕ, ◌<◌, Bool, true, false, List, [], ◌∷◌, slice_index, slice_set, refl, arith, Option, None, Some, ◌≢◌}

@@ -1,4 +1,4 @@
--- The page tables, the taken bytes and the blocks of a memory that holds a world, said with no decoding. So a memory that holds a sound
+-- The page tables, the taken bytes and the blocks of a memory that holds a world, said with no decoding; so a memory that holds a sound
 -- world has exactly the bytes that the world asks for.
 use Rattle.std.proofs.Common.{◌≡◌, ◌≢◌, ℕ, suc, ◌+◌, ◌-◌, ◌*◌, ◌/◌, ◌<◌, inl, inr, true, List, length, slice_index, Some, ap, ◌∙◌, sym}
 use Rattle.std.proofs.{Common.{arith, zero, ◌%◌, ◌≤◌, subst, add-zero, Bool, zero-add}, lemmas.Bool.{cases_eq}}

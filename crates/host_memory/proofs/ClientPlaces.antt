@@ -1,5 +1,5 @@
 -- Where places lie in the memory: the world's byte at one that the client may touch, the bytes of blocks among the budget frames, and the
--- places that the client may write. No page of a block lies in an idle frame, so a write there leaves the list of free frames.
+-- places that the client may write; no page of a block lies in an idle frame, so a write there leaves the list of free frames.
 use Rattle.std.proofs.Common.{◌≡◌, ℕ, suc, ◌+◌, ◌-◌, ◌*◌, ◌/◌, ◌%◌, ◌<◌, ◌⊎◌, inl, inr, Bool, true, false, List, slice_index, ap, ◌∙◌, sym}
 use Rattle.std.proofs.Common.{arith, zero-add, ◌≢◌, length, slice_set, get_or-set_same, get_or-set_other, ◌≤◌, refl, subst, Some, None}
 use Rattle.std.proofs.{lemmas.Bool.{false≢true, ltb-true}, lemmas.List.{get_or_past}}

@@ -1,15 +1,14 @@
--- Frames that can be popped, and those that can't. One that is popped in protected mode leaves the virtual interrupt flag.
-use Rattle.std.proofs.Common.{◌≡◌, ◌≤◌, ℕ, List, length, true, false, nat_eq, nat_le, refl, sym, subst, ◌∙◌, ap, Ok, Err, Bool, Option}
-use Rattle.std.proofs.{Common.{None, Some}, lemmas.Bool.{le-leb}}
+-- Frames that can be popped, and those that can't; one that is popped in protected mode leaves the virtual interrupt flag.
+use Rattle.std.proofs.Common.{◌≡◌, ◌≤◌, ℕ, List, length, true, false, nat_eq, nat_le, refl, sym, subst, ◌∙◌, ap, Ok, Err, Bool}
+use Rattle.std.proofs.lemmas.Bool.{le-leb}
 use Rattle.std.specs.{Prelude.{is_ok}, declared.result.Result.{Result}}
 use Rattle.client_world.specs.{declared.faults.Event.{Event}, declared.outcome.Exit.{Exit}, declared.outcome.Exit.TheVariants.{BadFrame}}
 use Rattle.client_world.specs.{declared.outcome.Exit.TheVariants.{Deep}, declared.registers.Mode.TheVariants.{Real, Protected}}
 use Rattle.client_world.specs.{Soundness.{IsSound}, World.{World, HostWorld, depth}, declared.calls.Record.{Record}}
-use Rattle.client_world.specs.{declared.limits.TheConstants.{GREATEST_DEPTH}, declared.faults.Event.TheVariants.{Fault as fault}}
-use Rattle.client_world.specs.{declared.faults.Fault.{Fault}, declared.registers.Mode.{Mode}, Loading.{transfer_fault}}
+use Rattle.client_world.specs.{declared.limits.TheConstants.{GREATEST_DEPTH}, declared.registers.Mode.{Mode}, Loading.{transfer_fault}}
 use Rattle.client_world.specs.Registers.{low_half}
-use Rattle.interrupts.proofs.{KeptWorlds.{kept_world_popped}, ReturnPlans.{left, with_cs, with_image, with_ip}, SoundAnswers.{granted_was}}
-use Rattle.interrupts.proofs.SoundAnswers.{holds_of_answer, holds_of_world, return_was}
+use Rattle.interrupts.proofs.{KeptWorlds.{kept_world_popped}, ReturnPlans.{left, with_cs, with_image, with_ip}}
+use Rattle.interrupts.proofs.SoundAnswers.{holds_of_world, return_was}
 use Rattle.translation.specs.SimulatedCall.{reflect}
 use Rattle.dos_calls.specs.Kept.{HasSameStack}
 use Rattle.interrupts.specs.{Delivery.{after_iret, result_of_pop}, RealFrames.{frame_fits}, Worlds.{world_of_result, world_after_iret}}
@@ -18,10 +17,8 @@ use Rattle.host_memory.specs.View.{MachineView}
 use Rattle.host_run.specs.{declared.vectors.TheConstants.{DPMI_INTERRUPT}, Turn.{Outcome, ends, after_exit_call, after_protected_pop}}
 use Rattle.host_run.specs.Turn.{after_protected_call, is_exit_call, is_presence_call, after_default_vector, after_real_vector}
 use Rattle.exec_flow.specs.{FarTransfers.{far_transfer, interrupt_frame_pop}, FlagImages.{with_popped_flags}, Interrupts.{frame_bits}}
-use Rattle.guest_space.specs.Pending.{after_writes, first_write_fault}
-use Rattle.insn_plan.specs.{Act.{Act, Input, Pending, Read, done, unless_fault, value_of}, Plan.{after_commit, after_plan, plan_result}}
-use Rattle.insn_plan.specs.{Plan.{with_state}, Stack.{stack_item}}
-use Rattle.mode_gates.proofs.FarStates.{settled_flag}
+use Rattle.insn_plan.specs.{Act.{Pending}, Plan.{plan_result}, Stack.{stack_item}}
+use Rattle.mode_gates.proofs.FarStates.{KeepsFlag, carried_flag, flag_read, flag_unless}
 
 same_outcome : (r : Result MachineView Exit) → is_ok (world_of_result r) ≡ is_ok r
 same_outcome (Ok v) = refl
@@ -104,28 +101,10 @@ still_popped fits w u before after real same can =
 
 -- ---- the virtual interrupt flag
 
--- a plan leaves the flag, where there is one
-abbrev LeavesInterrupts : World → Result Pending Event → Type 0
-LeavesInterrupts w (Ok p) = p.vif ≡ w.vif
-LeavesInterrupts w (Err e) = Unit {0}
-
-by_value : (w : World) (r : Result ℕ Event) (rest : ℕ → Act) → ((v : ℕ) → LeavesInterrupts w (plan_result w (rest v))) →
-    LeavesInterrupts w (elim r [ Ok v ↦ plan_result w (rest v) | Err e ↦ Err e ])
-by_value w (Ok v) rest leaves = leaves v
-by_value w (Err e) rest leaves = tt
-
-read_leaves : (w : World) (input : Input) (rest : ℕ → Act) → ((v : ℕ) → LeavesInterrupts w (plan_result w (rest v))) →
-    LeavesInterrupts w (plan_result w (Read input rest))
-read_leaves w input rest leaves = by_value w (value_of w input) rest leaves
-
-unless_leaves : (w : World) (o : Option Fault) (p : Pending) → p.vif ≡ w.vif → LeavesInterrupts w (plan_result w (unless_fault o (done p)))
-unless_leaves w None p same = same
-unless_leaves w (Some f) p same = tt
-
 transfer_leaves : (w : World) (sel ip : ℕ) (return : Bool) (p : Pending) → p.vif ≡ w.vif →
-    LeavesInterrupts w (plan_result w (far_transfer w sel ip return p))
+    KeepsFlag w (plan_result w (far_transfer w sel ip return p))
 unfolding far_transfer
-transfer_leaves w sel ip return p same = unless_leaves w (transfer_fault w sel ip return) _ same
+transfer_leaves w sel ip return p same = flag_unless w (transfer_fault w sel ip return) _ same
 
 by_mode : (mode : Mode) (popped on : Bool) → mode ≡ Protected → elim mode as (λ _. Bool) [ Real ↦ popped | Protected ↦ on ] ≡ on
 by_mode Real popped on e = absurd cc
@@ -135,23 +114,17 @@ flag_left : (w : World) (bits image : ℕ) → w.mode ≡ Protected → (left w 
 unfolding with_popped_flags
 flag_left w bits image mode = by_mode w.mode _ w.vif mode
 
-frame_leaves : (w : World) (bits : ℕ) → w.mode ≡ Protected → LeavesInterrupts w (plan_result w (interrupt_frame_pop w bits))
+frame_leaves : (w : World) (bits : ℕ) → w.mode ≡ Protected → KeepsFlag w (plan_result w (interrupt_frame_pop w bits))
 unfolding interrupt_frame_pop
 frame_leaves w bits mode =
-    read_leaves w (stack_item w bits 0) (with_ip w bits) (λ ip.
-    read_leaves w (stack_item w bits 1) (with_cs w bits ip) (λ cs.
-    read_leaves w (stack_item w bits 2) (with_image w bits ip cs) (λ image.
+    flag_read w (stack_item w bits 0) (with_ip w bits) (λ ip.
+    flag_read w (stack_item w bits 1) (with_cs w bits ip) (λ cs.
+    flag_read w (stack_item w bits 2) (with_image w bits ip cs) (λ image.
     transfer_leaves w (low_half cs) ip true (left w bits image) (flag_left w bits image mode))))
-
-carried_leaves : (v u : MachineView) (r : Result Pending Event) → LeavesInterrupts v.world r → after_plan v r ≡ Ok u →
-    u.world.vif ≡ v.world.vif
-unfolding after_plan
-carried_leaves v u (Ok p) same e = settled_flag v u p same e
-carried_leaves v u (Err f) same e = absurd cc
 
 machine_popped : (v u : MachineView) → v.world.mode ≡ Protected → after_iret v ≡ Ok u → u.world.vif ≡ v.world.vif
 unfolding after_iret
-machine_popped v u mode e = carried_leaves v u _ (frame_leaves v.world (frame_bits v.world) mode) (return_was _ u e)
+machine_popped v u mode e = carried_flag v u _ (frame_leaves v.world (frame_bits v.world) mode) (return_was _ u e)
 
 pub popped_keeps_interrupts : (w u : World) → w.mode ≡ Protected → world_after_iret w ≡ Ok u → u.vif ≡ w.vif
 unfolding world_after_iret

@@ -1,7 +1,7 @@
 -- Two matched turns hand over what the start and the return of a call or of an exception do, since the record of the first is that of the
--- second. A delivery leaves its frame at the handler's stack pointer, and a return takes what the frame then holds.
-use Rattle.std.proofs.Common.{◌≡◌, ◌∙◌, ℕ, Bool, true, false, [], ap, refl, sym, Option, None, Some, Result, Ok, Err, inl, inr, ◌+◌, List}
-use Rattle.std.proofs.{Common.{◌∷◌, ◌++◌, subst}, lemmas.List.{same_from_push}}
+-- second; a delivery leaves its frame at the handler's stack pointer, and a return takes what the frame then holds.
+use Rattle.std.proofs.Common.{rules, ◌≡◌, ◌∙◌, ℕ, Bool, true, false, [], ap, refl, sym, Option, None, Some, Result, Ok, Err, inl, inr, ◌+◌}
+use Rattle.std.proofs.{Common.{List, ◌∷◌, ◌++◌, subst}, lemmas.List.{same_from_push}}
 use Rattle.std.specs.Prelude.{if◌then◌else◌}
 use Rattle.client_world.specs.{declared.faults.Event.{Event}, declared.faults.Fault.{Fault}}
 use Rattle.client_world.specs.{declared.registers.Mode.TheVariants.{Protected}, declared.segments.SegReg.TheVariants.{Cs, Ss}}
@@ -106,20 +106,9 @@ resumed_by v u p t e =
     let none : p.writes ≡ [] = ap (λ (x : Pending). x.writes) t.is in
     let is : Ok (after_pop (with_state p.regs p.vif v)) ≡ Ok u = ap result_of_exception_pop (sym (settled_is v p none)) ∙ e in
     let same : after_pop (with_state p.regs p.vif v) ≡ u = cc in
-    record {
-      ip = t.ip;
-      cs = t.cs;
-      image = t.image;
-      sp = t.sp;
-      ss = t.ss;
-      ip_left = t.ip_left;
-      cs_left = t.cs_left;
-      image_left = t.image_left;
-      sp_left = t.sp_left;
-      ss_left = t.ss_left;
-      regs = ap (λ (x : MachineView). x.world.regs) (sym same) ∙ ap (λ (x : Pending). x.regs) t.is;
-      vif = ap (λ (x : MachineView). x.world.vif) (sym same) ∙ ap (λ (x : Pending). x.vif) t.is;
-    }
+    let regs = ap (λ (x : MachineView). x.world.regs) (sym same) ∙ ap (λ (x : Pending). x.regs) t.is in
+    let vif = ap (λ (x : MachineView). x.world.vif) (sym same) ∙ ap (λ (x : Pending). x.vif) t.is in
+    search rules
 
 resumed_of : (v u : MachineView) (r : Result Pending Event) → plan_result v.world (exception_frame_pop v.world (frame_bits v.world)) ≡ r →
     result_of_exception_pop (after_plan v r) ≡ Ok u → HasResumed v.world u.world

@@ -1,6 +1,6 @@
 -- Nested calls return in order: inductions over the turns of a run, by how each turn changes the depth.
-use Rattle.std.proofs.Common.{◌≡◌, ℕ, zero, suc, ◌+◌, ◌-◌, ◌<◌, ◌≤◌, ◌⊎◌, [], ◌∷◌, ◌++◌, length, take, refl, sym, ap, subst, ◌∙◌, inl, inr}
-use Rattle.std.proofs.{Common.{arith}, lemmas.List.{take-append-le, length_push, same_from_push}, Math.Seq.{take-length}}
+use Rattle.std.proofs.Common.{rules, ◌≡◌, ℕ, zero, suc, ◌+◌, ◌-◌, ◌<◌, ◌≤◌, ◌⊎◌, [], ◌∷◌, ◌++◌, length, take, refl, sym, ap, subst, ◌∙◌}
+use Rattle.std.proofs.{Common.{inl, inr, arith}, lemmas.List.{take-append-le, length_push, same_from_push}, Math.Seq.{take-length}}
 use Rattle.std.proofs.lemmas.Bool.{cases_lt}
 use Rattle.client_world.specs.{declared.calls.Call.{Call}, declared.calls.Call.TheVariants.{Int, Far, Iret, Reflect}}
 use Rattle.client_world.specs.{declared.calls.Record.{Record}, declared.calls.Record.TheVariants.{Sim, Back, Exc}, World.{HostWorld, World}}
@@ -135,15 +135,7 @@ starts_anywhere : (source : InterruptSource) (w v : HostWorld) (call : Call) (r 
 starts_anywhere source w v (Int n) r h = h
 starts_anywhere source w v Far r h = h
 starts_anywhere source w v Iret r h = h
-starts_anywhere source w v (Reflect n) r h = record {
-  client = h.client;
-  from = from_either source w.machine h.client h.from;
-  mode = h.mode;
-  vif = h.vif;
-  starts = h.starts;
-  keeps = h.keeps;
-  lines = h.lines;
-}
+starts_anywhere source w v (Reflect n) r h = let from = from_either source w.machine h.client h.from in search rules
 
 pushes_anywhere : (source : InterruptSource) (w v : HostWorld) (r : Record) → PushesRecord source w r v → PushesRecord from_anywhere w r v
 pushes_anywhere source w v (Sim call saved vif at) h = starts_anywhere source w v call (Sim call saved vif at) h

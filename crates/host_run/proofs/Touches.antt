@@ -1,4 +1,4 @@
--- The client's part of a turn changes its footprint alone. The places that turns touch are the client's, and each byte that the client's
+-- The client's part of a turn changes its footprint alone; the places that turns touch are the client's, and each byte that the client's
 -- instruction changes is that of such a place.
 use Rattle.std.proofs.{Common.{◌≡◌, ◌∙◌, ℕ, List, ap, refl, sym, subst, Result, Ok, Err, [], None, Some}, lemmas.List.Elements.{All-nil}}
 use Rattle.std.specs.{Prelude.{MatchResult, OnOk, All, Contains}, declared.option.Option.{Option}}

@@ -1,6 +1,6 @@
 -- What a turn keeps: one record, and one lemma for each kind of turn.
-use Rattle.std.proofs.Common.{arith, ◌≡◌, ◌≢◌, ◌≤◌, ◌+◌, ◌*◌, ◌∙◌, sym, ap, subst, ℕ, Bool, true, false, List, [], ◌∷◌, ◌++◌, nat_eq, refl}
-use Rattle.std.proofs.Common.{Option, None, Some, Ok, Err}
+use Rattle.std.proofs.Common.{rules, arith, ◌≡◌, ◌≢◌, ◌≤◌, ◌+◌, ◌*◌, ◌∙◌, sym, ap, subst, ℕ, Bool, true, false, List, [], ◌∷◌, ◌++◌, nat_eq}
+use Rattle.std.proofs.Common.{refl, Option, None, Some, Ok, Err}
 use Rattle.std.specs.{Prelude.{IfOk, is_ok, if◌then◌else◌}, declared.result.Result.{Result}}
 use Rattle.client_world.specs.{declared.calls.Call.{Call}, declared.calls.Call.TheVariants.{Int, Far, Iret, Reflect}}
 use Rattle.client_world.specs.{declared.calls.Record.{Record}, declared.calls.Record.TheVariants.{Sim, Back, Exc}}
@@ -528,17 +528,7 @@ leaves_settled w host (Some exit) l = record { machine = l.machine; outside = l.
 -- neither the count of turns nor the exit matters to the records
 call_settled : (w after : HostWorld) (e : Option Exit) (call : Call) (r : Record) → StartsCall (with_turn_counted w) call r after →
     StartsCall w call r (record after { exit = e })
-call_settled w after e call r h =
-    record {
-      popped = h.popped;
-      pops = h.pops;
-      mode = h.mode;
-      vif = h.vif;
-      asked = h.asked;
-      starts = h.starts;
-      keeps = h.keeps;
-      lines = h.lines;
-    }
+call_settled w after e call r h = search rules
 
 starts_settled : (source : InterruptSource) (w after : HostWorld) (e : Option Exit) (call : Call) (r : Record) →
     StartsRealCall source (with_turn_counted w) call r after → StartsRealCall source w call r (record after { exit = e })

@@ -1,4 +1,4 @@
--- The accesses of what an instruction puts and pushes: the numbers have no part in them. Touches of a list of accesses, one after another.
+-- The accesses of what an instruction puts and pushes: the numbers have no part in them; touches of a list of accesses, one after another.
 use Rattle.std.proofs.Common.{◌≡◌, ℕ, Bool, true, List, [], ◌∷◌, ◌++◌, refl, suc, ◌+◌, ◌<◌, ◌≤◌, None, Some, ap, ◌∙◌, drop, drop-cons}
 use Rattle.std.proofs.{Common.{length, arith}, lemmas.List.{drop_all}}
 use Rattle.client_world.specs.{declared.registers.Regs.{Regs}, World.{World}, declared.watchpoints.Touch.{Touch}}

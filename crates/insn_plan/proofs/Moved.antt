@@ -1,4 +1,4 @@
--- EIP has no part in what an instruction reads, in the address of an operand, or in the fault of an access. An operand that isn't in memory
+-- EIP has no part in what an instruction reads, in the address of an operand, or in the fault of an access; an operand that isn't in memory
 -- gives its number.
 use Rattle.std.proofs.Common.{◌≡◌, ℕ, Bool, refl, false, List, [], ◌∷◌, Ok, Err, None, Some, ap, ◌∙◌}
 use Rattle.client_world.specs.{declared.registers.Regs.{Regs}, declared.faults.Fault.{Fault}, declared.place.Place.{Place}}

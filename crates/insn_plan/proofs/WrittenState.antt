@@ -84,7 +84,7 @@ carried_event v (Ok p) event e = absurd cc
 carried_event v (Err other) event e = cc
 
 -- the machine, unless there is a fault
-abbrev unless : Option Fault → MachineView → Result MachineView Event
+abbrev pub unless : Option Fault → MachineView → Result MachineView Event
 unless None u = Ok u
 unless (Some f) u = Err (fault f)
 
@@ -93,7 +93,7 @@ settled_is : (o : Option Fault) (u : MachineView) → elim o as (λ _. Result Ma
 settled_is None u = refl
 settled_is (Some f) u = refl
 
-settled_unless : (v : MachineView) (p : Pending) →
+pub settled_unless : (v : MachineView) (p : Pending) →
     after_commit v p ≡ unless (first_write_fault v.world p.writes) (with_state p.regs p.vif (after_writes v p.writes))
 unfolding after_commit
 settled_unless v p = settled_is (first_write_fault v.world p.writes) (with_state p.regs p.vif (after_writes v p.writes))

@@ -1,5 +1,5 @@
 -- A step, an interrupt, an exception and a return change registers, the virtual interrupt flag and memory alone; a return changes no
--- memory. The pushes of an interrupt don't change whether its handler can be entered.
+-- memory; the pushes of an interrupt don't change whether its handler can be entered.
 use Rattle.std.proofs.Common.{◌≡◌, [], ap, ◌∙◌, Result, Ok, Err, ℕ, List, refl, Bool, false, ◌*◌, ◌+◌, ◌<◌, sym, subst, arith, Option, None}
 use Rattle.std.proofs.{Common.{Some}, lemmas.Bool.{lt-ltb}}
 use Rattle.client_world.specs.{declared.faults.Event.{Event}, declared.faults.Event.TheVariants.{Fault as fault}}

@@ -1,4 +1,4 @@
--- A return writes nothing, so that it can be made where its plan can. In real mode a frame can be popped exactly where its three words lie
+-- A return writes nothing, so that it can be made where its plan can; in real mode a frame can be popped exactly where its three words lie
 -- inside the stack segment.
 use Rattle.std.proofs.Common.{◌≡◌, ℕ, Bool, true, [], refl, ap, ◌∙◌, Option, None, Some, Result, Ok, Err, ◌+◌, ◌*◌, ◌%◌, ◌<◌, ◌^◌, false}
 use Rattle.std.proofs.{Common.{◌&&◌, List, sym, subst, arith}, lemmas.Bool.{leb-true, lt-ltb}, Math.Bool.{and-true, and_assoc}}

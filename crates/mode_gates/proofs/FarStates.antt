@@ -35,7 +35,7 @@ quiet_far w bits bytes = quiet_read w (stack_item w bits 0) (with_ip w bits byte
 -- ---- the virtual interrupt flag stays
 
 -- a plan that keeps it, where there is one
-abbrev KeepsFlag : World → Result Pending Event → Type 0
+abbrev pub KeepsFlag : World → Result Pending Event → Type 0
 KeepsFlag w (Ok p) = p.vif ≡ w.vif
 KeepsFlag w (Err e) = Unit {0}
 
@@ -44,11 +44,11 @@ flag_by_value : (w : World) (r : Result ℕ Event) (rest : ℕ → Act) → ((v 
 flag_by_value w (Ok v) rest keeps = keeps v
 flag_by_value w (Err e) rest keeps = tt
 
-flag_read : (w : World) (input : Input) (rest : ℕ → Act) → ((v : ℕ) → KeepsFlag w (plan_result w (rest v))) →
+pub flag_read : (w : World) (input : Input) (rest : ℕ → Act) → ((v : ℕ) → KeepsFlag w (plan_result w (rest v))) →
     KeepsFlag w (plan_result w (Read input rest))
 flag_read w input rest keeps = flag_by_value w (value_of w input) rest keeps
 
-flag_unless : (w : World) (o : Option Fault) (p : Pending) → p.vif ≡ w.vif → KeepsFlag w (plan_result w (unless_fault o (done p)))
+pub flag_unless : (w : World) (o : Option Fault) (p : Pending) → p.vif ≡ w.vif → KeepsFlag w (plan_result w (unless_fault o (done p)))
 flag_unless w None p same = same
 flag_unless w (Some f) p same = tt
 
@@ -70,7 +70,7 @@ settled_flag v u p keeps e =
     holds_of_answer (λ (m : MachineView). m.world.vif ≡ v.world.vif) (Ok x) u keeps
     (granted_was fault (first_write_fault v.world p.writes) (Ok x) u e)
 
-carried_flag : (v u : MachineView) (r : Result Pending Event) → KeepsFlag v.world r → after_plan v r ≡ Ok u → u.world.vif ≡ v.world.vif
+pub carried_flag : (v u : MachineView) (r : Result Pending Event) → KeepsFlag v.world r → after_plan v r ≡ Ok u → u.world.vif ≡ v.world.vif
 unfolding after_plan
 carried_flag v u (Ok p) keeps e = settled_flag v u p keeps e
 carried_flag v u (Err f) keeps e = absurd cc

@@ -1,4 +1,4 @@
--- Runs of bytes that are put one after the other into zeros; so a record is read from its bytes. The innermost record of a call, and those
+-- Runs of bytes that are put one after the other into zeros; so a record is read from its bytes; the innermost record of a call, and those
 -- before it.
 use Rattle.std.proofs.Common.{◌≡◌, ℕ, ◌+◌, ◌-◌, ◌<◌, ◌≤◌, inl, inr, Bool, false, List, [], ◌++◌, length, replicate, take, drop, refl, ap}
 use Rattle.std.proofs.{Common.{◌∙◌, sym, arith, length-append, true, not, nat_eq, cond, ◌∷◌, Some}, lemmas.Bool.{cases_lt}}

@@ -1,8 +1,8 @@
 -- The list of free frames as its first frame is taken, as a frame is put before it, and as the frames of others are written: what the
 -- writes leave that do so, and those that link the frames of the budget one after another, from the last one down.
-use Rattle.std.proofs.Common.{◌≡◌, ◌≢◌, ◌↔◌, ◌⊎◌, inl, inr, ℕ, zero, suc, ◌<◌, List, [], ◌∷◌, length, slice_index, slice_index_or, Contains}
-use Rattle.std.proofs.Common.{refl, ap, ◌∙◌, sym, subst, arith, ◌+◌, ◌*◌, ◌≤◌, slice_set, get_or-set_same, get_or-set_other, length-set}
-use Rattle.std.proofs.{Common.{◌/◌}, lemmas.List.{get_or_default}, lemmas.Bool.{cases_eq, cases_lt}}
+use Rattle.std.proofs.Common.{◌≡◌, ◌≢◌, ◌↔◌, ◌⊎◌, inl, inr, ℕ, zero, suc, ◌<◌, List, [], ◌∷◌, length, slice_index, Contains, refl, ap, ◌∙◌}
+use Rattle.std.proofs.Common.{sym, subst, arith, ◌+◌, ◌*◌, ◌≤◌, slice_set, get_or-set_same, get_or-set_other, length-set, ◌/◌}
+use Rattle.std.proofs.{lemmas.List.{get_or_default}, lemmas.Bool.{cases_eq, cases_lt}}
 use Rattle.page_tables.specs.FreeList.{IsChain, ListsFree, HasFreeList, IsFreeFrame, first_free, next_free, with_head, without_head}
 use Rattle.page_tables.specs.Budget.{AllTaken, HasBudget, IsBudgetFrame, IsTaken, taken_place, AllFree}
 use Rattle.page_tables.specs.declared.budget.TheConstants.{FREE_LIST_HEAD}

@@ -1,6 +1,6 @@
 -- The directory of the host is one that `map` and `unmap` may work on. First zero doublewords, and zero entries of it.
-use Rattle.std.proofs.Common.{◌≡◌, ℕ, ◌+◌, ◌<◌, List, get_or, true, false, refl, arith, add-zero, ◌≢◌, ◌-◌, ◌*◌, ◌/◌, ◌≤◌, ◌⊎◌, inl, inr}
-use Rattle.std.proofs.{Common.{length, zero, suc, add-one}, lemmas.Bool.{cases_eq, cases_lt}}
+use Rattle.std.proofs.Common.{◌≡◌, ℕ, ◌+◌, ◌<◌, List, get_or, true, false, arith, add-zero, ◌≢◌, ◌-◌, ◌*◌, ◌/◌, ◌≤◌, ◌⊎◌, length, zero, suc}
+use Rattle.std.proofs.{Common.{add-one}, lemmas.Bool.{cases_eq, cases_lt}}
 use Rattle.guest_ram.specs.Bytes.{dword}
 use Rattle.page_tables.specs.{Mapping.{NamesTable, directory_word, HasTables}, Walk.{frame_of}, declared.entry.TheConstants.{TABLE_SPAN}}
 use Rattle.page_tables.specs.declared.entry.TheConstants.{SUPERVISOR_WRITABLE, USER_WRITABLE}

@@ -1,10 +1,10 @@
 -- The bits of a page's entry, and where a walk that meets it ends: within a page walks meet the same entries, and an entry that is put
 -- changes the walk of its page alone.
-use Rattle.std.proofs.Common.{◌≡◌, ℕ, Bool, true, false, nat_eq, refl, ap, arith, ◌+◌, ◌*◌, ◌/◌, ◌%◌, ◌<◌, ◌≤◌, ◌^◌, inl, inr, ◌&&◌, ◌||◌}
-use Rattle.std.proofs.{Common.{not, List, Ok, ◌∙◌, sym, ◌≢◌, ◌⊎◌, length}, lemmas.Bool.{cases_Bool, cases_lt, cases_eq}}
+use Rattle.std.proofs.Common.{◌≡◌, ℕ, Bool, true, false, nat_eq, refl, ap, arith, ◌+◌, ◌*◌, ◌/◌, ◌%◌, ◌<◌, ◌≤◌, ◌^◌, List, Ok, ◌∙◌, sym}
+use Rattle.std.proofs.{Common.{◌≢◌, ◌⊎◌, length}, lemmas.Bool.{cases_Bool, cases_lt, cases_eq}}
 use Rattle.client_world.specs.{Registers.{has_bit}, Access.{linear}, declared.host_frames.TheConstants.{PAGE_SIZE, TABLE_ENTRIES}}
 use Rattle.client_world.specs.declared.host_frames.TheConstants.{PAGE_DIRECTORY}
-use Rattle.page_tables.specs.{Entry.{page_entry, allows}, Walk.{walk_end, fault, frame_of, walked, page_of, entry_place, directory_entry}}
+use Rattle.page_tables.specs.{Entry.{page_entry}, Walk.{walk_end, fault, frame_of, walked, page_of, entry_place, directory_entry}}
 use Rattle.page_tables.specs.{Walk.{table_entry, table_place}, Mapping.{ended_in_frame, HasTables, IsCovered, IsMapped, IsUnmapped}}
 use Rattle.page_tables.specs.{Mapping.{directory_word, EndsInFrame, EndsNowhere, KeepsOtherPages}, declared.entry.TheConstants.{PRESENT}}
 use Rattle.page_tables.specs.declared.entry.TheConstants.{USER, WRITABLE, TABLE_SPAN}

@@ -1,5 +1,5 @@
 -- A round by its parts: the timer's, which is nothing after an exit, else the interrupt, or only the count of one more round; and the round
--- that is made, by what that part returns. A run: how it starts, one round after another, and how it ends.
+-- that is made, by what that part returns; a run: how it starts, one round after another, and how it ends.
 use Rattle.std.proofs.Common.{arith, ◌≡◌, ◌≤◌, ◌+◌, Bool, true, false, ◌&&◌, Option, None, Some, Ok, Err, nat_eq, refl, ◌∙◌, ℕ, List, ap}
 use Rattle.std.proofs.Common.{subst, sym, ◌<◌, ◌-◌, zero, suc, add-zero, add-suc, add-one}
 use Rattle.std.specs.{Prelude.{if◌then◌else◌, IsSome}, declared.result.Result.{Result}}

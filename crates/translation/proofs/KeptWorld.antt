@@ -1,4 +1,4 @@
--- What a call, a reflection and a return leave as it was. Calls and reflections push one record, and returns pop one, from any world.
+-- What a call, a reflection and a return leave as it was; calls and reflections push one record, and returns pop one, from any world.
 use Rattle.std.proofs.Common.{◌≡◌, ℕ, ◌-◌, Bool, List, refl, ap, sym, subst, take, Ok, [], ◌∷◌, ◌++◌, ◌∙◌, arith}
 use Rattle.client_world.specs.{declared.calls.Call.{Call}, declared.registers.Mode.TheVariants.{Protected}, declared.registers.Regs.{Regs}}
 use Rattle.client_world.specs.{declared.segments.FarPtr.{FarPtr}, declared.services.Carry.{Carry}}

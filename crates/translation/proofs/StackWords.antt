@@ -1,4 +1,4 @@
--- Words that were put on a real stack are read there again: different offsets of a segment lie at different bytes of the megabyte. One word
+-- Words that were put on a real stack are read there again: different offsets of a segment lie at different bytes of the megabyte; one word
 -- more of a stack; and a word can be written exactly where a push of real mode could write it.
 use Rattle.std.proofs.Common.{◌≡◌, ◌≢◌, ℕ, ◌+◌, ◌*◌, ◌%◌, ◌<◌, Bool, true, false, ◌&&◌, not, List, [], ◌∷◌, ◌++◌, length, slice_index}
 use Rattle.std.proofs.Common.{slice_set, refl, ap, ◌∙◌, arith, get_or-set_same, get_or-set_other, length-set, zero, suc, ◌-◌, ◌≤◌, drop}

@@ -3,7 +3,7 @@ use Rattle.std.proofs.Common.{◌≡◌, ℕ, suc, ◌+◌, ◌-◌, ◌*◌, �
 use Rattle.std.proofs.{Common.{drop, length, arith, zero, ◌++◌, Some, sym, append_assoc, take}, lemmas.List.{drop_all, length-drop}}
 use Rattle.std.proofs.{lemmas.List.{append-nil, drop-set-lt}, Math.Seq.{drop-cons, take-suc-set}, Math.Nat.{pow-suc, pow-le-pow_right}}
 use Rattle.std.proofs.Math.Bool.{and-false, or-false, or_assoc}
-use Rattle.std.specs.Prelude.{slice_index_or, cond, ◌||◌, slice_set, not, ◌&&◌}
+use Rattle.std.specs.Prelude.{slice_index_or, cond, ◌||◌, slice_set, not}
 use Rattle.client_world.specs.{declared.watchpoints.Touch.{Touch}, declared.watchpoints.Watch.{Watch}}
 use Rattle.watch_run.specs.Hits.{hit_bits, slot_hit, watches_for, watches_one, watches_after_touches, has_first_hit, is_first_hit}
 use Rattle.watch_run.specs.Hits.{watch_after_touches}

@@ -1,5 +1,5 @@
 use Rattle.block_memory.proofs.BlockSteps.{can_give, is_mapped, page_removed, tables_there}
-use Rattle.std.proofs.Common.{◌+◌}
+use Rattle.std.proofs.Common.{◌+◌, rules}
 use Rattle.block_memory.proofs.blocks.drop_page.Goals as goal
 
 pub unmap-frame-requires-clause-tables : goal.unmap-frame-requires-clause-tables
@@ -8,29 +8,11 @@ unmap-frame-requires-clause-tables c = tables_there c.args.ram.now c.args.place 
 pub unmap-frame-requires-clause-mapped : goal.unmap-frame-requires-clause-mapped
 unmap-frame-requires-clause-mapped c = is_mapped c.args.ram.now c.args.place c.args.base c.args.n c.requires.pages
 
-pub give_frame-requires-clause-list : goal.give_frame-requires-clause-list
-give_frame-requires-clause-list c =
-    (can_give c.args.ram.now c.args.place c.args.base c.args.n c.requires.pages c.unmap-frame.new.ram c.unmap-frame.ensures.bytes
-    c.unmap-frame.result
-    c.unmap-frame.ensures.frame).list
-
-pub give_frame-requires-clause-budget : goal.give_frame-requires-clause-budget
-give_frame-requires-clause-budget c =
-    (can_give c.args.ram.now c.args.place c.args.base c.args.n c.requires.pages c.unmap-frame.new.ram c.unmap-frame.ensures.bytes
-    c.unmap-frame.result
-    c.unmap-frame.ensures.frame).is
-
-pub give_frame-requires-clause-taken : goal.give_frame-requires-clause-taken
-give_frame-requires-clause-taken c =
-    (can_give c.args.ram.now c.args.place c.args.base c.args.n c.requires.pages c.unmap-frame.new.ram c.unmap-frame.ensures.bytes
-    c.unmap-frame.result
-    c.unmap-frame.ensures.frame).taken
-
-pub give_frame-requires-clause-unmapped : goal.give_frame-requires-clause-unmapped
-give_frame-requires-clause-unmapped c =
-    (can_give c.args.ram.now c.args.place c.args.base c.args.n c.requires.pages c.unmap-frame.new.ram c.unmap-frame.ensures.bytes
-    c.unmap-frame.result
-    c.unmap-frame.ensures.frame).nowhere
+pub give_frame-requires : goal.give_frame-requires
+give_frame-requires c =
+    let give = can_give c.args.ram.now c.args.place c.args.base c.args.n c.requires.pages c.unmap-frame.new.ram c.unmap-frame.ensures.bytes
+    c.unmap-frame.result c.unmap-frame.ensures.frame in
+    record { frames = search rules; list = give.list; budget = give.is; taken = give.taken; unmapped = give.nowhere }
 
 pub returns : goal.returns
 returns c =
