@@ -1,8 +1,8 @@
 -- Hits noted, one handle after another.
-use Rattle.std.proofs.Common.{◌≡◌, ℕ, zero, suc, ◌+◌, ◌<◌, ◌≤◌, Bool, true, false, List, [], ◌∷◌, ◌++◌, None, Some, Option, refl, ap, sym}
-use Rattle.std.proofs.{Common.{◌∙◌, append_assoc, drop, take, length, arith}, lemmas.List.{append-nil, drop_all, drop-set-lt}}
-use Rattle.std.proofs.{Math.Seq.{drop-cons, take-suc-set}, Math.Bool.{and-false, or-false, or_assoc}}
-use Rattle.std.specs.Prelude.{slice_index_or, slice_set, not, ◌&&◌, ◌||◌}
+use Rattle.std.proofs.Common.{◌≡◌, ℕ, zero, suc, ◌+◌, ◌<◌, ◌≤◌, Bool, false, List, [], ◌∷◌, ◌++◌, None, Some, Option, refl, ap, sym, ◌∙◌}
+use Rattle.std.proofs.{Common.{append_assoc, drop, take, length, arith}, lemmas.List.{append-nil, drop_all, drop-set-lt}}
+use Rattle.std.proofs.{Math.Seq.{take-suc-set}, Math.Bool.{and-false, or-false, or_assoc}}
+use Rattle.std.specs.Prelude.{slice_index_or, slice_set, not, ◌||◌}
 use Rattle.client_world.specs.{declared.watchpoints.Touch.{Touch}, declared.watchpoints.Watch.{Watch}}
 use Rattle.watch_run.specs.Hits.{watches_after_touches, has_first_hit, is_first_hit, watch_after_touches}
 use Rattle.watch_run.proofs.HitLaws.{slot_from}
