@@ -24,7 +24,8 @@ def description():
 
 def registers(row, turn, base):
     """The registers of a state in that order, each in hexadecimal digits. Addresses are counted from `base`."""
-    values = {name: getattr(row, name) for name in CORE + BASES if name not in ("eip", "eflags")}
+    values = {name: getattr(row, name) for name in CORE if name not in ("eip", "eflags")}
+    values.update({name: getattr(row, name) - base for name in BASES})
     values.update(eip=row.instruction - base, eflags=row.flags, ip=row.eip, top=row.stack_top - base, turn=turn, depth=row.depth)
     texts = {name: (value & 0xFFFFFFFF).to_bytes(4, "little").hex() for name, value in values.items()}
     return [texts[name] for name in CORE] + ["x" * 20] * STACKS + ["x" * 8] * len(CONTROL) + [texts[name] for name in EXTRA]

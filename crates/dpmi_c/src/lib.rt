@@ -4,6 +4,7 @@
 //! Functions may be added. The order of their parameters is what `dpmi.h` tells callers, and isn't free.
 #![tactic(auto)]
 
+mod given;
 mod runs;
 mod searches;
 

@@ -1,13 +1,14 @@
 // The text and the states of a run.
-ghost use Rattle.std.specs.Prelude.{◌≡◌, ◌≤◌, ◌⊎◌, length, take};
-ghost use Rattle.dpmi_calls.specs.{Clients.{answer_of, client_of}, Runs.{host_of}, States.{AreSeen, AreStates, IsRefusedStates}};
-ghost use Rattle.dpmi_calls.specs.declared.outcome.TheConstants.{DONE, NO_MEMORY, NO_ROOM, REFUSED};
+ghost use Rattle.std.specs.Prelude.{◌≡◌, ◌≤◌, ◌<◌, ◌⊎◌, length, take};
+ghost use Rattle.dpmi_calls.specs.{Clients.{answer_of, client_of}, Turns.{host_of}, States.{AreSeen, AreStates, IsRefusedStates}};
+ghost use Rattle.dpmi_calls.specs.{States.{IsStatesCall}, declared.outcome.TheConstants.{DONE, NO_MEMORY, NO_ROOM, REFUSED}};
 
-use dpmi_calls::{Client, State, states_after, write_text};
+use crate::given::client;
+use dpmi_calls::{State, states_after, write_text};
 use std::alloc::Global;
 
-/// Writes the text of `dpmi run` to the first `written` bytes of `text`, and returns the command's status; 4 where the text doesn't fit, 5
-/// when out of memory. Source: own.
+/// Writes the text of `dpmi run` to the first `written` bytes of `text`, and returns the command's status; 4 where it is longer than
+/// `text`, 5 when out of memory. Source: own.
 #[unsafe(no_mangle)]
 pub extern "C" fn dpmi_run(
     alloc: Global,
@@ -24,14 +25,10 @@ pub extern "C" fn dpmi_run(
         take written.new text.new ≡ (answer_of (client_of file.now keys.now pages timer) bound trace).text }
     ensures status { result ≤ REFUSED → result ≡ (answer_of (client_of file.now keys.now pages timer) bound trace).status }
     ensures nothing { (result ≤ REFUSED) ⊎ (written.new ≡ 0) }
+    ensures room { result ≡ NO_ROOM → length text.new < length (answer_of (client_of file.now keys.now pages timer) bound trace).text }
     ensures known { (result ≤ REFUSED) ⊎ (result ≡ NO_ROOM) ⊎ (result ≡ NO_MEMORY) }
 {
-    let client = Client {
-        file,
-        keys,
-        pages,
-        timer,
-    };
+    let client = client(file, keys, pages, timer);
     write_text(alloc, &client, bound, trace, text, written)
 }
 
@@ -52,14 +49,11 @@ pub extern "C" fn dpmi_states(
     ensures rows { result ≡ DONE → AreStates (host_of (client_of file.now keys.now pages timer)) turns.now rows.new }
     ensures memory { result ≡ DONE → AreSeen (host_of (client_of file.now keys.now pages timer)) turns.now places.now memory.new }
     ensures known { (result ≡ DONE) ⊎ (result ≡ REFUSED) ⊎ (result ≡ NO_MEMORY) }
+    ensures taken { result ≡ DONE →
+        IsStatesCall (client_of file.now keys.now pages timer) turns.now (length places.now) (length rows.old) (length memory.old) }
     ensures refused { result ≡ REFUSED →
         IsRefusedStates (client_of file.now keys.now pages timer) turns.now (length places.now) (length rows.old) (length memory.old) }
 {
-    let client = Client {
-        file,
-        keys,
-        pages,
-        timer,
-    };
+    let client = client(file, keys, pages, timer);
     states_after(alloc, client, turns, places, rows, memory)
 }

@@ -1,13 +1,14 @@
 // The stops of a run.
-ghost use Rattle.std.specs.Prelude.{◌≡◌, ◌≤◌, ◌+◌, ◌-◌, ◌⊎◌, length, take, IsSome};
-ghost use Rattle.dpmi_calls.specs.{Clients.{client_of}, Runs.{host_of}, Stops.{IsRefusedSearch, last_of, stop_or_none, stops_of}};
-ghost use Rattle.dpmi_calls.specs.{Stops.{wanted_of}, declared.outcome.TheConstants.{DONE, NO_MEMORY, REFUSED}};
+ghost use Rattle.std.specs.Prelude.{◌≡◌, ◌≤◌, ◌+◌, ◌-◌, ◌⊎◌, length, take, None, IsSome};
+ghost use Rattle.dpmi_calls.specs.{Clients.{client_of}, Turns.{host_of}, Stops.{IsRefusedSearch, IsSearch, last_of, stop_or_none}};
+ghost use Rattle.dpmi_calls.specs.{Stops.{stops_of, wanted_of}, declared.outcome.TheConstants.{DONE, NO_MEMORY, REFUSED}};
 
-use dpmi_calls::{Client, Stop, Wanted, first_stops, last_stop};
+use crate::given::{client, wanted};
+use dpmi_calls::{Stop, first_stops, last_stop};
 use std::alloc::Global;
 
 /// Gives the first stops of the turns from `from` to `to`, as many as there is room for; `made` counts them, and `reached` is the last turn
-/// that was made. Returns 0; 2 where the call is refused, 5 when out of memory. Source: own.
+/// that was made. Returns 0; 2 where the call is refused, 5 when out of memory; then both are 0. Source: own.
 #[unsafe(no_mangle)]
 pub extern "C" fn dpmi_stops(
     alloc: Global,
@@ -31,28 +32,21 @@ pub extern "C" fn dpmi_stops(
     ensures whole { result ≡ DONE → (reached.new ≡ to) ⊎ (made.new ≡ length stops.new)
         ⊎ IsSome (host_of (client_of file.now keys.now pages timer) reached.new).exit }
     ensures few { made.new ≤ length stops.new }
+    ensures nothing { (result ≡ DONE) ⊎ ((made.new ≡ 0) × (reached.new ≡ 0)) }
     ensures reached { result ≡ DONE → (from ≤ reached.new + 1) × (reached.new ≤ to) }
     ensures known { (result ≡ DONE) ⊎ (result ≡ REFUSED) ⊎ (result ≡ NO_MEMORY) }
+    ensures taken { result ≡ DONE →
+        IsSearch (client_of file.now keys.now pages timer) from to (wanted_of places.now bytes.now stay_at stay_size) }
     ensures refused { result ≡ REFUSED →
         IsRefusedSearch (client_of file.now keys.now pages timer) from to (wanted_of places.now bytes.now stay_at stay_size) }
 {
-    let client = Client {
-        file,
-        keys,
-        pages,
-        timer,
-    };
-    let wanted = Wanted {
-        places,
-        bytes,
-        stay_at,
-        stay_size,
-    };
+    let client = client(file, keys, pages, timer);
+    let wanted = wanted(places, bytes, stay_at, stay_size);
     first_stops(alloc, client, from, to, &wanted, stops, made, reached)
 }
 
 /// Gives the last stop of the turns from `from` to `to`, or one of turn 0; `reached` is the last turn that was made. Returns 0; 2 where the
-/// call is refused, 5 when out of memory. Source: own.
+/// call is refused, 5 when out of memory; then both are 0. Source: own.
 #[unsafe(no_mangle)]
 pub extern "C" fn dpmi_last_stop(
     alloc: Global,
@@ -73,22 +67,15 @@ pub extern "C" fn dpmi_last_stop(
         ≡ stop_or_none (last_of (wanted_of places.now bytes.now stay_at stay_size)
         (host_of (client_of file.now keys.now pages timer)) (from - 1) (reached.new + 1 - from)) }
     ensures whole { result ≡ DONE → (reached.new ≡ to) ⊎ IsSome (host_of (client_of file.now keys.now pages timer) reached.new).exit }
+    ensures nothing { (result ≡ DONE) ⊎ ((stop.new ≡ stop_or_none None) × (reached.new ≡ 0)) }
     ensures reached { result ≡ DONE → (from ≤ reached.new + 1) × (reached.new ≤ to) }
     ensures known { (result ≡ DONE) ⊎ (result ≡ REFUSED) ⊎ (result ≡ NO_MEMORY) }
+    ensures taken { result ≡ DONE →
+        IsSearch (client_of file.now keys.now pages timer) from to (wanted_of places.now bytes.now stay_at stay_size) }
     ensures refused { result ≡ REFUSED →
         IsRefusedSearch (client_of file.now keys.now pages timer) from to (wanted_of places.now bytes.now stay_at stay_size) }
 {
-    let client = Client {
-        file,
-        keys,
-        pages,
-        timer,
-    };
-    let wanted = Wanted {
-        places,
-        bytes,
-        stay_at,
-        stay_size,
-    };
+    let client = client(file, keys, pages, timer);
+    let wanted = wanted(places, bytes, stay_at, stay_size);
     last_stop(alloc, client, from, to, &wanted, stop, reached)
 }

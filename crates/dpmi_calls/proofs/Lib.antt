@@ -1,6 +1,7 @@
 mod Bytes
 pub mod Texts
 mod Places
+mod Results
 mod RowLists
 mod Turns
 mod Starts

@@ -1,7 +1,7 @@
 -- The first position at which a test passes, as a search going up finds it.
-use Rattle.std.proofs.Common.{◌≡◌, ◌≢◌, ◌∙◌, ◌<◌, ◌≤◌, ◌+◌, ℕ, Bool, true, false, List, length, drop, map, nat_eq, not, sym, ap, None, Some}
-use Rattle.std.proofs.{Common.{arith}, lemmas.Iterator.Adapters.{position_from-zero}, lemmas.List.{drop_more, drop_all, get_or-map}}
-use Rattle.std.specs.{Prelude.{cond, slice_index}, List.{position, position_from}, declared.option.Option.{Option}}
+use Rattle.std.proofs.Common.{◌≡◌, ◌≢◌, ◌∙◌, ◌<◌, ◌≤◌, ◌+◌, ℕ, Bool, true, List, length, drop, map, nat_eq, not, sym, ap, None, Some, arith}
+use Rattle.std.proofs.{lemmas.Iterator.Adapters.{position_from-zero}, lemmas.List.{drop_more, drop_all, get_or-map}}
+use Rattle.std.specs.{Prelude.{cond, slice_index}, List.{position, position_from}}
 
 pub found : (p : ℕ → Bool) (xs : List ℕ) (i : ℕ) → position_from p 0 xs ≡ position_from p i (drop i xs) → i < length xs →
     p (slice_index xs i) ≡ true → Some i ≡ position p xs

@@ -1,7 +1,8 @@
 -- Rows of states, and numbers of turns that go down.
-use Rattle.std.proofs.Common.{arith, ◌≡◌, ◌<◌, ◌+◌, ℕ, zero, suc, List, length, refl, sym, subst, inl, inr, add-one, slice_index}
+use Rattle.std.proofs.Common.{arith, ◌≡◌, ◌<◌, ◌≤◌, ◌+◌, ℕ, zero, suc, List, length, refl, sym, subst, inl, inr, add-one, slice_index}
 use Rattle.std.proofs.{Common.{slice_index_or, slice_set, get_or-set_same, get_or-set_other}, Math.Nat.{eq-or-lt_of_le}}
 use Rattle.std.specs.Prelude.{◌⊎◌}
+use Rattle.client_world.specs.declared.limits.TheConstants.{MAX_STEPS}
 use Rattle.dpmi_calls.specs.{States.{Descends}, declared.state.State.{State}}
 
 -- one more row is put
@@ -24,3 +25,24 @@ descends turns zero now made lt is none before less = let zero_made = none refl 
 descends turns (suc k) now made lt is none before less =
     let was = before k (sym (add-one k)) in
     (k, omega (arith, lt), subst (λ n. slice_index turns n < slice_index turns k) (sym (add-one k)) (omega (arith, is, was, less)))
+
+-- one more number that isn't below how many turns were made
+pub still_in_order : (turns : List ℕ) (i made : ℕ) → ((k : ℕ) → i ≡ k + 1 → made ≡ slice_index turns k) → made ≤ slice_index turns i →
+    ((k : ℕ) → k + 1 < i → slice_index turns k ≤ slice_index turns (k + 1)) →
+    (k : ℕ) → k + 1 < i + 1 → slice_index turns k ≤ slice_index turns (k + 1)
+still_in_order turns i made before here old k lt = by (eq-or-lt_of_le (omega (arith, lt)))
+  where
+    by : (k + 1 ≡ i) ⊎ (k + 1 < i) → slice_index turns k ≤ slice_index turns (k + 1)
+    by (inl same) =
+        let was = before k (sym same) in
+        subst (λ n. slice_index turns k ≤ slice_index turns n) (sym same) (omega (arith, was, here))
+    by (inr less) = old k less
+
+-- nor above the greatest
+pub still_small : (turns : List ℕ) (i : ℕ) → slice_index turns i ≤ MAX_STEPS → ((k : ℕ) → k < i → slice_index turns k ≤ MAX_STEPS) →
+    (k : ℕ) → k < i + 1 → slice_index turns k ≤ MAX_STEPS
+still_small turns i here old k lt = by (eq-or-lt_of_le (omega (arith, lt)))
+  where
+    by : (k ≡ i) ⊎ (k < i) → slice_index turns k ≤ MAX_STEPS
+    by (inl same) = subst (λ n. slice_index turns n ≤ MAX_STEPS) (sym same) here
+    by (inr less) = old k less

@@ -2,10 +2,11 @@
 use Rattle.std.proofs.Common.{arith, ◌≡◌, ◌∙◌, ◌≤◌, ◌+◌, ℕ, refl, sym, ap, subst, inl, inr, None, Some}
 use Rattle.std.specs.{Prelude.{◌⊎◌, IsSome}, declared.option.Option.{Option}}
 use Rattle.client_world.specs.{WatchWorld.{WatchWorld, Watching, host_without_watches, no_watches}, World.{HostWorld}}
-use Rattle.dpmi_calls.specs.{Clients.{ClientGiven, client_at_start, given, timer_given}, Runs.{IsRun, client_after, every_by, every_of}}
-use Rattle.dpmi_calls.specs.{Runs.{host_of, world_by, world_of}, Turns.{before_turns, next_turn, turns_from}}
+use Rattle.dpmi_calls.specs.{Clients.{ClientGiven, answer_of, client_at_start, given, refusal_of, timer_given}, Runs.{IsRun, every_by}}
+use Rattle.dpmi_calls.specs.{Runs.{every_of, world_by, world_of}, Turns.{before_turns, client_after, host_of, next_turn, turns_from}}
 use Rattle.dpmi_calls.specs.{declared.run.ClientRun.{ClientRun}, declared.start.Client.{Client}}
 use Rattle.dpmi_calls.proofs.Turns.{one_more, past}
+use Rattle.dpmi_cli.specs.{Answer.{Refuses, Starts, Verdict, answer_to}, declared.prepare.Reason.{Reason}}
 use Rattle.host_run.specs.{View.{machine_view}, Windows.{HasWindow}}
 use Rattle.timer_run.specs.{Rounds.{TimedWorld, round_with_timer, timed, with_new_timer}, Timer.{TimerState}}
 use Rattle.watch_run.specs.Turn.{turn_with_watchpoints}
@@ -86,3 +87,14 @@ unfolding turns_from
 started c t w new watches host =
     new ∙ ap (λ (s : Watching). with_new_timer (record { host = w.host; watching = s })) watches
     ∙ ap (λ (h : HostWorld). with_new_timer (host_without_watches h)) host
+
+-- the answer of a client that is taken, by the host in which it starts, and its timer
+pub answer_started : (c : ClientGiven) (bound trace : ℕ) (h : HostWorld) (timer : Option ℕ) → refusal_of c bound trace ≡ None →
+    h ≡ client_at_start c trace → timer ≡ timer_given c.timer → answer_to (Starts h timer bound) ≡ answer_of c bound trace
+answer_started c bound trace h timer taken is every =
+    ap (λ (t : Option ℕ). answer_to (Starts h t bound)) every
+    ∙ ap (λ (w : HostWorld). answer_to (Starts w (timer_given c.timer) bound)) is
+    ∙ sym (ap (λ (o : Option Reason). answer_to (elim o as (λ _. Verdict) [
+      | None ↦ Starts (client_at_start c trace) (timer_given c.timer) bound
+      | Some reason ↦ Refuses reason
+    ])) taken)

@@ -1,13 +1,11 @@
 -- Lists of stops, and the first byte that changed.
-use Rattle.std.proofs.Common.{arith, ◌≡◌, ◌<◌, ◌≤◌, ◌+◌, ◌-◌, ◌++◌, ◌∷◌, [], ℕ, suc, Bool, true, false, List, length, take, map, refl, sym}
-use Rattle.std.proofs.{Common.{◌∙◌, ap, None, Some, add-one, subst}, Math.Nat.{sub_self}, lemmas.Iterator.Adapters.{position_from-zero}}
-use Rattle.std.proofs.lemmas.List.{append-nil, take_more_set}
-use Rattle.std.specs.{Prelude.{nat_eq, not, slice_set, cond, if◌then◌else◌}, List.{position, position_from, zip}}
-use Rattle.std.specs.declared.option.Option.{Option}
-use Rattle.client_world.specs.{declared.outcome.Exit.{Exit}, World.{HostWorld, World}}
+use Rattle.std.proofs.Common.{arith, ◌≡◌, ◌≤◌, ◌+◌, ◌-◌, ◌++◌, ◌∷◌, [], ℕ, Bool, true, false, List, map, refl, sym, ◌∙◌, ap, None, Some}
+use Rattle.std.proofs.{Common.{add-one}, Math.Nat.{sub_self}, lemmas.Iterator.Adapters.{position_from-zero}}
+use Rattle.std.specs.{Prelude.{nat_eq, not, if◌then◌else◌}, List.{position, position_from}, declared.option.Option.{Option}}
+use Rattle.client_world.specs.World.{HostWorld, World}
 use Rattle.dpmi_calls.specs.{Memory.{seen}, Stops.{WantedStops, first_change, first_place, is_changed, is_outside, last_of, reason_at}}
-use Rattle.dpmi_calls.specs.{Stops.{reason_of, stop_at, last_by, stops_by, stops_of}, declared.stops.Stop.{Stop}}
-use Rattle.dpmi_calls.specs.{declared.wanted.Reason.{Reason}, declared.wanted.Reason.TheVariants.{Change, Place, Outside}}
+use Rattle.dpmi_calls.specs.{Stops.{reason_of, last_by, stops_by, stops_of}, declared.stops.Stop.{Stop}, declared.wanted.Reason.{Reason}}
+use Rattle.dpmi_calls.specs.declared.wanted.Reason.TheVariants.{Change, Place, Outside}
 
 -- ---- the first byte that changed
 

@@ -1,14 +1,14 @@
 -- Turns, one after another, and those after an exit, which change nothing.
 use Rattle.std.proofs.Common.{arith, ◌≡◌, ◌≤◌, ◌+◌, ◌-◌, ℕ, zero, suc, refl, sym, ◌∙◌, ap, subst, add-zero, add-suc, add-one, None, Some}
 use Rattle.std.specs.{Prelude.{IsSome}, declared.option.Option.{Option}}
-use Rattle.client_world.specs.{declared.outcome.Exit.{Exit}, WatchWorld.{WatchWorld}, World.{HostWorld}}
+use Rattle.client_world.specs.{WatchWorld.{WatchWorld}, World.{HostWorld}}
 use Rattle.dpmi_cli.specs.Runs.{host_at_end}
 use Rattle.dpmi_calls.specs.Turns.{before_turns, host_after, next_turn, turns_from}
 use Rattle.host_run.specs.Run.{with_bound_exit}
 use Rattle.host_run.proofs.Runs.{exit_of}
 use Rattle.timer_run.specs.Rounds.{TimedWorld, round_with_timer, rounds, timed_run, with_new_timer}
 use Rattle.timer_run.proofs.RoundParts.{round_over}
-use Rattle.watch_run.specs.Turn.{turn_with_watchpoints, turns_with_watchpoints, watched_run}
+use Rattle.watch_run.specs.Turn.{turns_with_watchpoints, watched_run}
 use Rattle.watch_run.proofs.WatchedTurns.{stays}
 
 pub one_more : (timer : Option ℕ) (w : TimedWorld) (n : ℕ) → turns_from timer w (n + 1) ≡ next_turn timer (turns_from timer w n)

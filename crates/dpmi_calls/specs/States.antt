@@ -1,6 +1,6 @@
 -- The numbers of a state. Source: own.
-use Rattle.std.specs.Prelude.{◌≡◌, ◌≢◌, ◌<◌, ◌+◌, ◌*◌, ◌⊎◌, ℕ, List, Bool, if◌then◌else◌, length, slice_index, slice_index_or, None, Some}
-use Rattle.std.specs.{Prelude.{IsSome}, declared.option.Option.{Option}}
+use Rattle.std.specs.Prelude.{◌≡◌, ◌≢◌, ◌≤◌, ◌<◌, ◌+◌, ◌*◌, ◌⊎◌, ℕ, List, Bool, if◌then◌else◌, length, slice_index, slice_index_or, None}
+use Rattle.std.specs.{Prelude.{Some, IsSome}, declared.option.Option.{Option}}
 use Rattle.client_world.specs.{declared.limits.TheConstants.{MAX_STEPS}, declared.outcome.Exit.{Exit}}
 use Rattle.client_world.specs.declared.outcome.Exit.TheVariants.{Exited, Fault, Bound, NoKeys, ConsoleFull, Deep, Stray, LostStructure}
 use Rattle.client_world.specs.{declared.outcome.Exit.TheVariants.{BadFrame, BadSwitch}, declared.registers.Mode.{Mode}}
@@ -110,7 +110,19 @@ Descends turns = (i : ℕ) × (i + 1 < length turns) × (slice_index turns (i + 
 abbrev pub PassesMost : List ℕ → Type 0
 PassesMost turns = (i : ℕ) × (i < length turns) × (MAX_STEPS < slice_index turns i)
 
--- why a call for states is refused: a length isn't as it should be, the turns aren't, or the client is refused
+-- neither is so
+abbrev pub AreInOrder : List ℕ → Type 0
+AreInOrder turns = ((i : ℕ) → i + 1 < length turns → slice_index turns i ≤ slice_index turns (i + 1))
+    × ((i : ℕ) → i < length turns → slice_index turns i ≤ MAX_STEPS)
+
+-- states are given: the lengths are as they should be, the turns are in order, and the client is taken
+pub record IsStatesCall (c : ClientGiven) (turns : List ℕ) (places rows_length memory_length : ℕ) : Type 0 where
+  pub rows : rows_length ≡ length turns
+  pub memory : memory_length ≡ length turns * places
+  pub order : AreInOrder turns
+  pub client : refusal_of c 0 0 ≡ None
+
+-- and why they are not
 abbrev pub IsRefusedStates : ClientGiven → List ℕ → ℕ → ℕ → ℕ → Type 0
 IsRefusedStates c turns places rows memory =
     (rows ≢ length turns) ⊎ (memory ≢ length turns * places) ⊎ Descends turns ⊎ PassesMost turns ⊎ IsSome (refusal_of c 0 0)

@@ -1,6 +1,6 @@
 -- What is looked for in a run, and the turns at which it is found. Source: own.
 use Rattle.std.specs.Prelude.{◌≡◌, ℕ, zero, suc, ◌+◌, ◌-◌, ◌%◌, ◌^◌, ◌≤◌, ◌<◌, ◌++◌, List, [], ◌∷◌, Bool, ◌&&◌, not, nat_eq, nat_lt, ◌⊎◌}
-use Rattle.std.specs.{Prelude.{false, nat_le, if◌then◌else◌, None, Some, length, IsSome}, List.{position}, declared.option.Option.{Option}}
+use Rattle.std.specs.{Prelude.{if◌then◌else◌, None, Some, length, IsSome}, List.{position}, declared.option.Option.{Option}}
 use Rattle.client_world.specs.World.{HostWorld, World}
 use Rattle.dpmi_calls.specs.{Clients.{ClientGiven, refusal_of}, Memory.{seen}, declared.stops.Stop.{Stop}}
 use Rattle.dpmi_calls.specs.{declared.wanted.TheConstants.{MOST_WANTED}, declared.wanted.Wanted.{Wanted}, declared.wanted.Reason.{Reason}}
@@ -104,12 +104,17 @@ stop_or_none o = elim o [ None ↦ record { turn = 0; reason = 0; which = 0 } | 
 -- ---- refusals
 
 -- no more is looked for than may be
-abbrev pub is_few : WantedStops → Bool
-is_few s = nat_le (length s.places) MOST_WANTED && nat_le (length s.bytes) MOST_WANTED
+abbrev pub IsFew : WantedStops → Type 0
+IsFew s = (length s.places ≤ MOST_WANTED) × (length s.bytes ≤ MOST_WANTED)
 
-abbrev pub IsFew : Wanted → Type 0
-IsFew w = (length w.places.now ≤ MOST_WANTED) × (length w.bytes.now ≤ MOST_WANTED)
+-- a search is made: its turns are some, no more is looked for than may be, and the client is taken, for so many turns
+pub record IsSearch (c : ClientGiven) (from to : ℕ) (s : WantedStops) : Type 0 where
+  pub first : 0 < from
+  pub order : from ≤ to
+  pub few : IsFew s
+  pub client : refusal_of c to 0 ≡ None
 
--- why a search is refused: its turns are none, too much is looked for, or the client is refused, or the last turn is too great
+-- and why it is not
 abbrev pub IsRefusedSearch : ClientGiven → ℕ → ℕ → WantedStops → Type 0
-IsRefusedSearch c from to s = (from ≡ 0) ⊎ (to < from) ⊎ (is_few s ≡ false) ⊎ IsSome (refusal_of c to 0)
+IsRefusedSearch c from to s =
+    (from ≡ 0) ⊎ (to < from) ⊎ (MOST_WANTED < length s.places) ⊎ (MOST_WANTED < length s.bytes) ⊎ IsSome (refusal_of c to 0)

@@ -1,6 +1,7 @@
 -- A client's turns, with its watchpoints, and with a timer or without one. Source: own.
-use Rattle.std.specs.{Prelude.{◌≡◌, ℕ, zero, suc, None, Some}, declared.option.Option.{Option}}
+use Rattle.std.specs.{Prelude.{ℕ, zero, suc, None, Some}, declared.option.Option.{Option}}
 use Rattle.client_world.specs.{WatchWorld.{host_without_watches}, World.{HostWorld}}
+use Rattle.dpmi_calls.specs.Clients.{ClientGiven, client_at_start, timer_given}
 use Rattle.timer_run.specs.Rounds.{TimedWorld, round_with_timer, with_new_timer}
 use Rattle.watch_run.specs.Turn.{turn_with_watchpoints}
 
@@ -21,3 +22,13 @@ before_turns h = with_new_timer (host_without_watches h)
 -- the host after that many turns; after an exit nothing changes
 abbrev pub host_after : Option ℕ → HostWorld → ℕ → HostWorld
 host_after timer h n = (turns_from timer (before_turns h) n).watched.host
+
+-- ---- a client's, with its timer
+
+-- the world of a client after that many turns
+abbrev pub client_after : ClientGiven → ℕ → TimedWorld
+client_after c n = turns_from (timer_given c.timer) (before_turns (client_at_start c 0)) n
+
+-- its host then
+abbrev pub host_of : ClientGiven → ℕ → HostWorld
+host_of c n = host_after (timer_given c.timer) (client_at_start c 0) n

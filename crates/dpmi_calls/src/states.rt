@@ -1,7 +1,8 @@
 // A client's states after some of its turns.
 ghost use Rattle.std.specs.Prelude.{◌≡◌, ◌*◌, ◌⊎◌, length, nat_eq, true, false};
-ghost use Rattle.dpmi_calls.specs.{Clients.{given}, Runs.{IsRun, host_of}, States.{AreSeen, AreStates, Descends, IsRefusedStates}};
-ghost use Rattle.dpmi_calls.specs.{States.{PassesMost}, declared.outcome.TheConstants.{DONE, NO_MEMORY, REFUSED}};
+ghost use Rattle.dpmi_calls.specs.{Clients.{given}, Runs.{IsRun}, Turns.{host_of}, States.{AreInOrder, AreSeen, AreStates, Descends}};
+ghost use Rattle.dpmi_calls.specs.{States.{IsRefusedStates, IsStatesCall, PassesMost}, declared.outcome.TheConstants.{DONE, NO_MEMORY}};
+ghost use Rattle.dpmi_calls.specs.declared.outcome.TheConstants.{REFUSED};
 
 use crate::memory::copy_seen;
 use crate::outcome::{DONE, NO_MEMORY, REFUSED};
@@ -25,6 +26,7 @@ fn note_states(
     requires memory { length memory.old ≡ length turns.now * length places.now }
     ensures rows { result ≡ true → AreStates (host_of (given run.old.client)) turns.now rows.new }
     ensures memory { result ≡ true → AreSeen (host_of (given run.old.client)) turns.now places.now memory.new }
+    ensures taken { result ≡ true → AreInOrder turns.now }
     ensures refused { result ≡ false → Descends turns.now ⊎ PassesMost turns.now }
 {
     let count = places.len();
@@ -74,6 +76,8 @@ pub fn states_after(
     ensures rows { result ≡ DONE → AreStates (host_of (given client.entry)) turns.now rows.new }
     ensures memory { result ≡ DONE → AreSeen (host_of (given client.entry)) turns.now places.now memory.new }
     ensures known { (result ≡ DONE) ⊎ (result ≡ REFUSED) ⊎ (result ≡ NO_MEMORY) }
+    ensures taken { result ≡ DONE →
+        IsStatesCall (given client.entry) turns.now (length places.now) (length rows.old) (length memory.old) }
     ensures refused { result ≡ REFUSED →
         IsRefusedStates (given client.entry) turns.now (length places.now) (length rows.old) (length memory.old) }
 {

@@ -1,8 +1,8 @@
 // The turns of a run at which what is looked for is found.
 ghost use Rattle.std.specs.Prelude.{◌≡◌, ◌≤◌, ◌<◌, ◌+◌, ◌-◌, ◌++◌, ◌⊎◌, length, take, map, None, IsSome, IfOk, IfErr, OnOk};
 ghost use Rattle.client_world.specs.declared.limits.TheConstants.{MAX_STEPS};
-ghost use Rattle.dpmi_calls.specs.{Clients.{given}, Memory.{seen}, Runs.{IsRun, host_of}, Stops.{IsFew, IsRefusedSearch, is_few, last_by}};
-ghost use Rattle.dpmi_calls.specs.Stops.{last_of, reason_at, stop_at, stop_or_none, stops_by, stops_of, wanted_in};
+ghost use Rattle.dpmi_calls.specs.{Clients.{given}, Memory.{seen}, Runs.{IsRun}, Turns.{host_of}, Stops.{IsFew, IsRefusedSearch, IsSearch}};
+ghost use Rattle.dpmi_calls.specs.Stops.{last_by, last_of, reason_at, stop_at, stop_or_none, stops_by, stops_of, wanted_in};
 ghost use Rattle.dpmi_calls.specs.declared.outcome.TheConstants.{DONE, NO_MEMORY, REFUSED};
 
 use crate::memory::copy_seen;
@@ -63,7 +63,7 @@ fn look(run: &mut ClientRun<'_>, wanted: &Wanted<'_>, before: &mut [u16]) -> Opt
     requires run { IsRun run.old }
     requires no_exit { run.old.host.world.exit ≡ None }
     requires room { run.old.turns < MAX_STEPS }
-    requires few { IsFew wanted.now }
+    requires few { IsFew (wanted_in wanted.now) }
     requires seen { before.old ≡ map (seen run.old.host.world.machine) wanted.now.bytes.now }
     ensures run { IsRun run.new }
     ensures client { run.new.client ≡ run.old.client }
@@ -86,7 +86,7 @@ fn note_stop(
     requires run { IsRun run.old }
     requires no_exit { run.old.host.world.exit ≡ None }
     requires room { run.old.turns < MAX_STEPS }
-    requires few { IsFew wanted.now }
+    requires few { IsFew (wanted_in wanted.now) }
     requires seen { before.old ≡ map (seen run.old.host.world.machine) wanted.now.bytes.now }
     requires place { made < length stops.old }
     ensures run { IsRun run.new }
@@ -118,7 +118,7 @@ fn find_first(
     requires run { IsRun run.old }
     requires later { run.old.turns ≤ to }
     requires room { to ≤ MAX_STEPS }
-    requires few { IsFew wanted.now }
+    requires few { IsFew (wanted_in wanted.now) }
     requires seen { before.old ≡ map (seen run.old.host.world.machine) wanted.now.bytes.now }
     ensures run { IsRun run.new }
     ensures client { run.new.client ≡ run.old.client }
@@ -149,7 +149,7 @@ fn next_last(
     requires run { IsRun run.old }
     requires no_exit { run.old.host.world.exit ≡ None }
     requires room { run.old.turns < MAX_STEPS }
-    requires few { IsFew wanted.now }
+    requires few { IsFew (wanted_in wanted.now) }
     requires seen { before.old ≡ map (seen run.old.host.world.machine) wanted.now.bytes.now }
     ensures run { IsRun run.new }
     ensures client { run.new.client ≡ run.old.client }
@@ -174,7 +174,7 @@ fn find_last(
     requires run { IsRun run.old }
     requires later { run.old.turns ≤ to }
     requires room { to ≤ MAX_STEPS }
-    requires few { IsFew wanted.now }
+    requires few { IsFew (wanted_in wanted.now) }
     requires seen { before.old ≡ map (seen run.old.host.world.machine) wanted.now.bytes.now }
     ensures run { IsRun run.new }
     ensures client { run.new.client ≡ run.old.client }
@@ -193,13 +193,6 @@ fn find_last(
     last
 }
 
-// Whether no more is looked for than may be.
-fn is_few(wanted: &Wanted<'_>) -> bool
-    ensures { result ≡ is_few (wanted_in wanted.now) }
-{
-    wanted.places.len() <= MOST_WANTED && wanted.bytes.len() <= MOST_WANTED
-}
-
 // The run of a client after the turns before one, and what the client sees there; or the status of a call that makes no search.
 fn start_search<'a>(
     alloc: Global,
@@ -208,8 +201,8 @@ fn start_search<'a>(
     to: u32,
     wanted: &Wanted<'_>,
 ) -> Result<(ClientRun<'a>, Vec<u16>), u8>
-    ensures few { OnOk result (IsFew wanted.now) }
-    ensures range { OnOk result ((0 < from) × (from ≤ to) × (to ≤ MAX_STEPS)) }
+    ensures search { OnOk result (IsSearch (given client.entry) from to (wanted_in wanted.now)) }
+    ensures most { OnOk result (to ≤ MAX_STEPS) }
     ensures run { IfOk result (λ s. IsRun s.0) }
     ensures client { IfOk result (λ s. s.0.client ≡ client.entry) }
     ensures turns { IfOk result (λ s. s.0.turns ≡ from - 1) }
@@ -217,7 +210,10 @@ fn start_search<'a>(
     ensures known { IfErr result (λ status. (status ≡ NO_MEMORY) ⊎ (status ≡ REFUSED)) }
     ensures refused { IfErr result (λ status. status ≡ REFUSED → IsRefusedSearch (given client.entry) from to (wanted_in wanted.now)) }
 {
-    if from == 0 || from > to || !is_few(wanted) {
+    if from == 0 || from > to {
+        return Err(REFUSED);
+    }
+    if wanted.places.len() > MOST_WANTED || wanted.bytes.len() > MOST_WANTED {
         return Err(REFUSED);
     }
     let mut run = match ClientRun::start(alloc, client, to) {
@@ -251,8 +247,10 @@ pub fn first_stops(
     ensures whole { result ≡ DONE →
         (reached.new ≡ to) ⊎ (made.new ≡ length stops.new) ⊎ IsSome (host_of (given client.entry) reached.new).exit }
     ensures few { made.new ≤ length stops.new }
+    ensures nothing { (result ≡ DONE) ⊎ ((made.new ≡ 0) × (reached.new ≡ 0)) }
     ensures reached { result ≡ DONE → (from ≤ reached.new + 1) × (reached.new ≤ to) }
     ensures known { (result ≡ DONE) ⊎ (result ≡ REFUSED) ⊎ (result ≡ NO_MEMORY) }
+    ensures taken { result ≡ DONE → IsSearch (given client.entry) from to (wanted_in wanted.now) }
     ensures refused { result ≡ REFUSED → IsRefusedSearch (given client.entry) from to (wanted_in wanted.now) }
 {
     *made = 0;
@@ -282,8 +280,10 @@ pub fn last_stop(
     ensures last { result ≡ DONE →
         stop.new ≡ stop_or_none (last_of (wanted_in wanted.now) (host_of (given client.entry)) (from - 1) (reached.new + 1 - from)) }
     ensures whole { result ≡ DONE → (reached.new ≡ to) ⊎ IsSome (host_of (given client.entry) reached.new).exit }
+    ensures nothing { (result ≡ DONE) ⊎ ((stop.new ≡ stop_or_none None) × (reached.new ≡ 0)) }
     ensures reached { result ≡ DONE → (from ≤ reached.new + 1) × (reached.new ≤ to) }
     ensures known { (result ≡ DONE) ⊎ (result ≡ REFUSED) ⊎ (result ≡ NO_MEMORY) }
+    ensures taken { result ≡ DONE → IsSearch (given client.entry) from to (wanted_in wanted.now) }
     ensures refused { result ≡ REFUSED → IsRefusedSearch (given client.entry) from to (wanted_in wanted.now) }
 {
     *stop = Stop::NONE;

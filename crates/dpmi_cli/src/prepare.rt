@@ -3,7 +3,6 @@ ghost use Rattle.std.specs.Prelude.{◌≡◌, ◌≤◌, ◌<◌, ◌⊎◌, []
 ghost use Rattle.std.specs.Prelude.{OnErr, IsErrOf};
 ghost use Rattle.client_world.specs.declared.limits.TheConstants.{DEFAULT_TRACE, MAX_FILE, MAX_KEYS, MAX_PAGES, MAX_TRACE};
 ghost use Rattle.dpmi_words.specs.Meaning.{keys_in, pair_in, run_in};
-ghost use Rattle.guest_ram.specs.Bytes.{AreBytes};
 ghost use Rattle.host_run.specs.Start.{blank, host_at_start};
 ghost use Rattle.mz_loader.specs.Refusal.{refusal};
 ghost use Rattle.dpmi_cli.specs.{Answer.{first_load, bytes_within, load_verdict, made_verdict, second_load}, Causes.{NamedFailed}};
@@ -16,6 +15,7 @@ use client_world::LoadFault;
 use client_world::limits::{DEFAULT_PAGES, DEFAULT_TRACE, MAX_FILE, MAX_KEYS, MAX_TRACE};
 use dpmi_io::{Shelf, ShelfFail, read_whole};
 use dpmi_words::{KeySource, Pair, Run, Words, read_words};
+use guest_space::are_bytes;
 use host_run::Host;
 use pair_run::Letter;
 use std::alloc::{AllocError, Global};
@@ -57,11 +57,6 @@ impl From<AllocError> for Stop {
         Stop::Memory
     }
 }
-
-// Each of the bytes fits: the type says so, and contracts see numbers alone.
-fn all_bytes_fit(bytes: &[u8])
-    ensures { AreBytes bytes.now }
-{}
 
 // Reads the first bytes of a file, as many as the buffer holds.
 fn read_front<F: Shelf>(shelf: &mut F, name: String, buf: &mut [u8]) -> Result<usize, ShelfFail>
@@ -152,7 +147,7 @@ pub fn start_host(
     ensures started { IfOk result (λ r. IfOk r (λ host. host.world ≡ host_at_start pages keys.now trace file.now)) }
     ensures ready { IfOk result (λ r. IfOk r (λ host. IsReady host.world)) }
 {
-    all_bytes_fit(keys);
+    are_bytes(keys);
     let mut host = Host::new(alloc, pages, keys, trace)?;
     match host.load(file) {
         Ok(()) => Ok(Ok(host)),
@@ -216,7 +211,7 @@ fn load_second(a: Host, mut b: Host, pair: &Pair<'_>, second: &[u8]) -> Prepared
     ensures verdict { second_load (pair_in pair.now) a.world second.now (refusal second.now) ≡ verdict_in result }
     ensures new { IsNew (verdict_in result) }
 {
-    all_bytes_fit(&[]);
+    are_bytes(&[]);
     match b.load(second) {
         Ok(()) => Prepared::Pair(a, b, pair.slice, pair.bound),
         Err(fault) => Prepared::Refused(Reason::LoadOf(Letter::B, fault)),
@@ -234,7 +229,7 @@ fn load_pair(
     ensures verdict { IfOk result (λ p. first_load (pair_in pair.now) first.now second.now (refusal first.now) ≡ verdict_in p) }
     ensures new { IfOk result (λ p. IsNew (verdict_in p)) }
 {
-    all_bytes_fit(&[]);
+    are_bytes(&[]);
     let mut a = Host::new(alloc, pair.pages_a, &[], DEFAULT_TRACE)?;
     let b = Host::new(alloc, pair.pages_b, &[], DEFAULT_TRACE)?;
     match a.load(first) {

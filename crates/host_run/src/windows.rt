@@ -172,10 +172,10 @@ impl Host {
         self.turn_at(Trap::NoTrap, window, Some(from))
     }
 
-    // The turn of a client that is at no start of a window.
+    /// The turn of a client that has not ended, in no window of code. Source: own.
     #[cold]
     #[inline(never)]
-    fn turn_outside(&mut self, window: &mut CodeWindow) -> Result<(), Ended>
+    pub fn turn_outside(&mut self, window: &mut CodeWindow) -> Result<(), Ended>
         requires no_exit { self.old.world.exit ≡ None }
         requires room { self.old.world.steps < MAX_STEPS }
         ensures turn { MakesTurn self.old self.new (turn_answer self.new.world.exit) self.new.world (turn self.old.world)
@@ -188,9 +188,9 @@ impl Host {
         self.turn_at(t, window, None)
     }
 
-    // The turn of a client that has not ended, with a window of code that turns hand on.
+    /// The turn of a client that has not ended, with a window of code that turns hand on. Source: own.
     #[inline(always)]
-    pub(crate) fn next_turn(&mut self, window: &mut CodeWindow) -> Result<(), Ended>
+    pub fn next_turn(&mut self, window: &mut CodeWindow) -> Result<(), Ended>
         requires no_exit { self.old.world.exit ≡ None }
         requires room { self.old.world.steps < MAX_STEPS }
         requires window { HasWindow (machine_view self.old) window.old }

@@ -1,5 +1,5 @@
 // Turns of a host with its client's watchpoints, and runs.
-ghost use Rattle.std.specs.Prelude.{◌≡◌, ◌≤◌, ◌<◌, ◌+◌, IsTrue, None, Some};
+ghost use Rattle.std.specs.Prelude.{◌≡◌, ◌≤◌, ◌<◌, ◌+◌, IsTrue, false, None, Some};
 ghost use Rattle.client_world.specs.declared.limits.TheConstants.{MAX_STEPS};
 ghost use Rattle.host_run.specs.{MakesTurn.{AnswersBy, turn_answer}, OtherTurns.{int31_call}, View.{machine_view}, Windows.{HasWindow}};
 ghost use Rattle.watch_run.specs.{Services.{is_watch_function, watch_service}, Turn.{MakesWatchedTurn, after_watch_call, is_watch_call}};
@@ -72,44 +72,71 @@ fn note_turn(m: &Machine, w: &mut Watches)
     }
 }
 
-// One turn of a host without an exit, whatever is watched.
+// Delivers the hit that is due, as a turn.
 #[inline(never)]
 #[tactic(auto, unfolding(crate::specs::Turn::turn_with_watchpoints), using(crate::proofs::TurnParts::told_steps))]
-fn watching_turn(h: &mut Host, w: &mut Watches) -> Result<(), Exit>
+fn deliver_hit(h: &mut Host, w: &mut Watches) -> Result<(), Ended>
     requires no_exit { h.old.world.exit ≡ None }
     requires room { h.old.world.steps < MAX_STEPS }
-    ensures { MakesWatchedTurn h.old h.new w.old w.new result }
+    requires due { IsTrue (delivers_hit (record { host = h.old.world; watching = w.old })) }
+    ensures turn { MakesWatchedTurn h.old h.new w.old w.new (turn_answer h.new.world.exit) }
+    ensures answer { AnswersBy result h.new.world.exit }
 {
-    if delivers_hit(h, w) {
-        w.clear_due();
-        return h.deliver_turn(Fault {
-            number: DEBUG,
-            code: 0,
-        });
+    w.clear_due();
+    let hit = Fault {
+        number: DEBUG,
+        code: 0,
+    };
+    match h.deliver_turn(hit) {
+        Ok(()) => Ok(()),
+        Err(_) => Err(Ended),
     }
-    if is_watch_call(h) {
-        serve_call(h, w);
-        return Ok(());
-    }
-    note_turn(h.machine(), w);
-    h.turn()
 }
 
-// A turn outside the windows of code, or with watchpoints.
+// The turn of a client with watchpoints.
 #[cold]
 #[inline(never)]
-fn watching_turn_in(h: &mut Host, w: &mut Watches, window: &mut CodeWindow) -> Result<(), Ended>
+#[tactic(auto, unfolding(crate::specs::Turn::turn_with_watchpoints))]
+fn watching_turn(h: &mut Host, w: &mut Watches, window: &mut CodeWindow) -> Result<(), Ended>
     requires no_exit { h.old.world.exit ≡ None }
     requires room { h.old.world.steps < MAX_STEPS }
+    requires window { HasWindow (machine_view h.old) window.old }
     ensures turn { MakesWatchedTurn h.old h.new w.old w.new (turn_answer h.new.world.exit) }
     ensures answer { AnswersBy result h.new.world.exit }
     ensures window { HasWindow (machine_view h.new) window.new }
 {
+    let ended = if delivers_hit(h, w) {
+        deliver_hit(h, w)
+    } else if is_watch_call(h) {
+        serve_call(h, w);
+        Ok(())
+    } else {
+        note_turn(h.machine(), w);
+        return h.next_turn(window);
+    };
     *window = CodeWindow::NONE;
-    match watching_turn(h, w) {
-        Ok(()) => Ok(()),
-        Err(_) => Err(Ended),
+    ended
+}
+
+// The turn of a client that is at no start and set no watchpoint.
+#[cold]
+#[inline(never)]
+#[tactic(auto, unfolding(crate::specs::Turn::turn_with_watchpoints))]
+fn turn_at_no_start(h: &mut Host, w: &mut Watches, window: &mut CodeWindow) -> Result<(), Ended>
+    requires no_exit { h.old.world.exit ≡ None }
+    requires room { h.old.world.steps < MAX_STEPS }
+    requires no_hit { delivers_hit (record { host = h.old.world; watching = w.old }) ≡ false }
+    requires unwatched { watches_after h.old.world.machine w.old ≡ w.old }
+    ensures turn { MakesWatchedTurn h.old h.new w.old w.new (turn_answer h.new.world.exit) }
+    ensures answer { AnswersBy result h.new.world.exit }
+    ensures window { HasWindow (machine_view h.new) window.new }
+{
+    if is_watch_call(h) {
+        *window = CodeWindow::NONE;
+        serve_call(h, w);
+        return Ok(());
     }
+    h.turn_outside(window)
 }
 
 // The turn of a client that is at no start of the window that is there, or has watchpoints.
@@ -126,13 +153,15 @@ fn turn_elsewhere(h: &mut Host, w: &mut Watches, window: &mut CodeWindow) -> Res
     ensures window { HasWindow (machine_view h.new) window.new }
 {
     if !w.is_unused() {
-        return watching_turn_in(h, w, window);
+        return watching_turn(h, w, window);
     }
-    let Some(from) = h.find_start(window) else {
-        return watching_turn_in(h, w, window);
-    };
-    h.no_trap_in(window, from);
-    h.turn_in_window(window, from)
+    match h.find_start(window) {
+        Some(from) => {
+            h.no_trap_in(window, from);
+            h.turn_in_window(window, from)
+        }
+        None => turn_at_no_start(h, w, window),
+    }
 }
 
 /// One turn, as `watch_turn` makes it, of a client that has not ended, with a window of code that turns hand on. It answers only whether

@@ -1,8 +1,8 @@
-use Rattle.std.proofs.{Common.{arith, ◌∙◌, ◌≡◌, ap, inl, inr, length, refl, slice_index, subst}, lemmas.List.{get_or-map, length-map}}
+use Rattle.std.proofs.{Common.{arith, ◌∙◌, ◌≡◌, ap, inl, length, refl, slice_index, subst}, lemmas.List.{get_or-map, length-map}}
 use Rattle.client_world.specs.World.{HostWorld}
-use Rattle.dpmi_calls.specs.{Clients.{given}, Memory.{seen}, Runs.{host_of}, States.{IsState}, declared.start.Client.{Client}}
-use Rattle.dpmi_calls.specs.declared.state.State.{State}
-use Rattle.dpmi_calls.proofs.{Bytes.{one_more_row, room_of_row}, RowLists.{descends, one_more_state}, Starts.{host_is}}
+use Rattle.dpmi_calls.specs.{Clients.{given}, Memory.{seen}, Turns.{host_of}, States.{IsState}, declared.start.Client.{Client}}
+use Rattle.dpmi_calls.proofs.{Bytes.{one_more_row, room_of_row}, RowLists.{descends, one_more_state, still_in_order, still_small}}
+use Rattle.dpmi_calls.proofs.Starts.{host_is}
 use Rattle.host_memory.specs.View.{MachineView}
 use Rattle.dpmi_calls.proofs.states.note_states.Goals as goal
 
@@ -12,6 +12,8 @@ loop-i-init c = (
   refl,
   λ e. c.requires.start,
   λ k e. absurd (omega (arith, e)),
+  λ k lt. absurd (omega (arith, lt)),
+  λ k lt. absurd (omega (arith, lt)),
   λ k other lt. absurd (omega (arith, lt)),
   λ k j lt few. absurd (omega (arith, lt)),
 )
@@ -33,16 +35,18 @@ loop-i-preserved c =
       moved.client ∙ l.invariant.1,
       λ e. absurd (omega (arith, e)),
       λ k e. let same : l.i ≡ k = omega (arith, e) in moved.turns ∙ ap (slice_index turns) same,
+      still_in_order turns l.i l.run.turns l.invariant.3 c.if-turn-run.false l.invariant.4,
+      still_small turns l.i c.if-turn-gt-MAX_STEPS.false l.invariant.5,
       one_more_state (λ n s. IsState s (host_of (given client) (slice_index turns n))) l.rows l.i c.state_of.result
           (let size : length l.rows ≡ length turns = l.auto.rows ∙ c.requires.rows in omega (arith, size, c.loop-i-test.true))
-          (subst (λ (h : HostWorld). IsState c.state_of.result h) here c.state_of.ensures) l.invariant.4,
+          (subst (λ (h : HostWorld). IsState c.state_of.result h) here c.state_of.ensures) l.invariant.6,
       λ k j lt few.
           one_more_row l.memory c.copy_seen.new.into (length places) l.i _ k j
           (λ m n. seen (host_of (given client) (slice_index turns m)).machine (slice_index places n))
           (room_of_row l.i (length turns) (length places) (length l.memory) (omega (arith, c.loop-i-test.true))
           (l.auto.memory ∙ c.requires.memory))
           (ap length c.copy_seen.ensures ∙ length-map places _)
-          l.invariant.5
+          l.invariant.7
           (λ n less. ap (λ ys. slice_index ys n) c.copy_seen.ensures ∙ get_or-map _ places n 0 0 less
           ∙ ap (λ (v : MachineView). seen v.world (slice_index places n)) c.machine.ensures
           ∙ ap (λ (h : HostWorld). seen h.machine (slice_index places n)) here)

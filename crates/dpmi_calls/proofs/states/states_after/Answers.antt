@@ -1,16 +1,11 @@
-use Rattle.std.proofs.Common.{arith, ◌≡◌, inl, inr, refl, subst, sym, Some}
-use Rattle.std.specs.{Prelude.{Err, IfErr, IfOk, IsSome, Ok}, declared.result.Result.{Result}, declared.option.Option.{Option}}
+use Rattle.std.proofs.Common.{arith, inl, inr, refl, subst, sym}
+use Rattle.std.specs.{Prelude.{IsSome}, declared.option.Option.{Option}}
 use Rattle.dpmi_calls.proofs.states.states_after.Goals.{then-rows-turns-via-then-rows-turns}
-use Rattle.dpmi_calls.proofs.states.states_after.Goals.{then-rows-turns-via-else-rows-turns+then-not-is_product}
-use Rattle.dpmi_calls.specs.{Clients.{given}, Runs.{host_of}, States.{AreSeen, AreStates}, declared.start.Client.{Client}}
+use Rattle.dpmi_calls.proofs.{states.states_after.Goals.{then-rows-turns-via-else-rows-turns+then-not-is_product}, Results.{of_err, of_ok}}
+use Rattle.dpmi_calls.proofs.Results.{on_ok}
+use Rattle.dpmi_calls.specs.{Clients.{given}, Turns.{host_of}, States.{AreSeen, AreStates}, declared.start.Client.{Client}}
 use Rattle.dpmi_cli.specs.declared.prepare.Reason.{Reason}
 use Rattle.dpmi_calls.proofs.states.states_after.Goals as goal
-
-of_ok : {A E : Type 0} (r : Result A E) (P : A → Type 0) (a : A) → r ≡ Ok a → IfOk r P → P a
-of_ok r P a is holds = subst (λ (x : Result _ _). IfOk x P) is holds
-
-of_err : {A E : Type 0} (r : Result A E) (P : E → Type 0) (e : E) → r ≡ Err e → IfErr r P → P e
-of_err r P e is holds = subst (λ (x : Result _ _). IfErr x P) is holds
 
 -- ---- the states are noted
 
@@ -26,6 +21,15 @@ returns-then-note_states-clause-memory c = λ _.
     (of_ok _ _ _ c.in-Ok-Ok.field-0-is c.in-Ok-Ok.ensures.client)
     (c.note_states.ensures.memory c.if-note_states.true)
 
+pub returns-then-note_states-clause-taken : goal.returns-then-note_states-clause-taken
+returns-then-note_states-clause-taken c = λ _.
+    record {
+      rows = omega (arith, c.if-rows-turns.false);
+      memory = let is = c.is_product.ensures in let product = c.if-not-is_product.false in grind (arith, is, product);
+      order = c.note_states.ensures.taken c.if-note_states.true;
+      client = on_ok _ _ _ c.in-Ok-Ok.field-0-is c.in-Ok-Ok.ensures.taken;
+    }
+
 pub returns-then-note_states-clause-refused : goal.returns-then-note_states-clause-refused
 returns-then-note_states-clause-refused c = λ e. absurd (omega (arith, e))
 
@@ -36,6 +40,9 @@ returns-in-Ok-Ok-clause-rows c = λ e. absurd (omega (arith, e))
 
 pub returns-in-Ok-Ok-clause-memory : goal.returns-in-Ok-Ok-clause-memory
 returns-in-Ok-Ok-clause-memory c = λ e. absurd (omega (arith, e))
+
+pub returns-in-Ok-Ok-clause-taken : goal.returns-in-Ok-Ok-clause-taken
+returns-in-Ok-Ok-clause-taken c = λ e. absurd (omega (arith, e))
 
 pub returns-in-Ok-Ok-clause-refused : goal.returns-in-Ok-Ok-clause-refused
 returns-in-Ok-Ok-clause-refused c = λ _.
@@ -49,6 +56,9 @@ returns-in-Ok-Err-clause-rows c = λ e. absurd (omega (arith, e))
 pub returns-in-Ok-Err-clause-memory : goal.returns-in-Ok-Err-clause-memory
 returns-in-Ok-Err-clause-memory c = λ e. absurd (omega (arith, e))
 
+pub returns-in-Ok-Err-clause-taken : goal.returns-in-Ok-Err-clause-taken
+returns-in-Ok-Err-clause-taken c = λ e. absurd (omega (arith, e))
+
 pub returns-in-Ok-Err-clause-refused : goal.returns-in-Ok-Err-clause-refused
 returns-in-Ok-Err-clause-refused c = λ _.
     inr (inr
@@ -60,6 +70,9 @@ returns-clause-rows c = λ e. absurd (omega (arith, e))
 pub returns-clause-memory : goal.returns-clause-memory
 returns-clause-memory c = λ e. absurd (omega (arith, e))
 
+pub returns-clause-taken : goal.returns-clause-taken
+returns-clause-taken c = λ e. absurd (omega (arith, e))
+
 pub returns-clause-refused : goal.returns-clause-refused
 returns-clause-refused c = λ e. absurd (omega (arith, e))
 
@@ -68,6 +81,9 @@ returns-then-rows-turns-clause-rows c = λ e. absurd (omega (arith, e))
 
 pub returns-then-rows-turns-clause-memory : goal.returns-then-rows-turns-clause-memory
 returns-then-rows-turns-clause-memory c = λ e. absurd (omega (arith, e))
+
+pub returns-then-rows-turns-clause-taken : goal.returns-then-rows-turns-clause-taken
+returns-then-rows-turns-clause-taken c = λ e. absurd (omega (arith, e))
 
 pub returns-then-rows-turns-clause-refused : goal.returns-then-rows-turns-clause-refused
 returns-then-rows-turns-clause-refused c = λ _. elim c.then-rows-turns.branch [

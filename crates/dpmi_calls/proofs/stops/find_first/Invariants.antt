@@ -1,5 +1,5 @@
 use Rattle.std.proofs.Common.{◌≡◌, ◌≤◌, ◌-◌, length, map, take}
-use Rattle.dpmi_calls.specs.{Clients.{given}, Memory.{seen}, Runs.{IsRun, host_of}, Stops.{stops_of, wanted_in}}
+use Rattle.dpmi_calls.specs.{Clients.{given}, Memory.{seen}, Runs.{IsRun}, Turns.{host_of}, Stops.{stops_of, wanted_in}}
 use Rattle.dpmi_calls.proofs.stops.find_first.Given as goal
 
 abbrev pub invariant-loop-done : goal.invariant-loop-done

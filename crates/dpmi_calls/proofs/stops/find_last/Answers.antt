@@ -1,5 +1,5 @@
-use Rattle.std.proofs.Common.{arith, ◌∙◌, ◌+◌, ◌-◌, ap, refl, sym, inl}
-use Rattle.dpmi_calls.specs.{Clients.{given}, Runs.{host_of}, Stops.{last_by, last_of, reason_at, wanted_in}}
+use Rattle.std.proofs.Common.{◌∙◌, ◌+◌, ◌-◌, ap, refl, sym}
+use Rattle.dpmi_calls.specs.{Clients.{given}, Turns.{host_of}, Stops.{last_by, last_of, reason_at, wanted_in}}
 use Rattle.dpmi_calls.specs.declared.start.Client.{Client}
 use Rattle.dpmi_calls.proofs.StopLists.{last_noted, no_last_yet}
 use Rattle.dpmi_calls.proofs.stops.find_last.Goals as goal

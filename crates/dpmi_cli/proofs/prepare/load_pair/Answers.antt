@@ -12,7 +12,7 @@ load_second-requires-clause-ready c =
     is_ready c.args.pair.now.pages_a [] DEFAULT_TRACE c.args.first.now c.load.new.self.world
     (is_started c.args.pair.now.pages_a [] DEFAULT_TRACE c.args.first.now c.in_ok-a.a.world c.load.new.self.world c.in_ok-a.ensures
     c.in-Ok.ensures.started)
-    c.in-Ok.ensures.sound c.all_bytes_fit.ensures
+    c.in-Ok.ensures.sound c.are_bytes.ensures
 
 pub returns-in-Err-clause-verdict : goal.returns-in-Err-clause-verdict
 returns-in-Err-clause-verdict c =

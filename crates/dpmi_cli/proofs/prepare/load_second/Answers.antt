@@ -23,4 +23,4 @@ returns-in-Ok-clause-new c =
     (is_ready c.args.pair.now.pages_b [] DEFAULT_TRACE c.args.second.now c.load.new.self.world
     (is_started c.args.pair.now.pages_b [] DEFAULT_TRACE c.args.second.now c.args.b.world c.load.new.self.world c.requires.blank
     c.in-Ok.ensures.started)
-    c.in-Ok.ensures.sound c.all_bytes_fit.ensures)
+    c.in-Ok.ensures.sound c.are_bytes.ensures)

@@ -14,4 +14,4 @@ returns-in-Ok-clause-ready c =
     is_ready c.args.pages c.args.keys.now c.args.trace c.args.file.now c.load.new.self.world
     (is_started c.args.pages c.args.keys.now c.args.trace c.args.file.now c.in_ok-host.host.world c.load.new.self.world c.in_ok-host.ensures
     c.in-Ok.ensures.started)
-    c.in-Ok.ensures.sound c.all_bytes_fit.ensures
+    c.in-Ok.ensures.sound c.are_bytes.ensures
