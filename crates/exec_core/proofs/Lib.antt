@@ -1,3 +1,4 @@
 pub mod BitLaws
 pub mod Parts
 pub mod Pushes
+pub mod OnRegisters

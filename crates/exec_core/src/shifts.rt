@@ -1,12 +1,14 @@
 // Shifts and rotates, and the double shifts.
-ghost use Rattle.std.specs.Prelude.{◌≡◌, IsTrue};
+ghost use Rattle.std.specs.Prelude.{◌≡◌, IsTrue, Ok};
 ghost use Rattle.cpu_alu.specs.DoubleShifts.{shld_of, shrd_of};
 ghost use Rattle.cpu_values.specs.Word.{IsWidth, cut};
-ghost use Rattle.exec_core.specs.Shifts.{DoubleFormula, shift, shift_in};
+ghost use Rattle.exec_core.specs.{Shaped.{IsOnRegister}, Shifts.{DoubleFormula, shift, shift_in}};
+ghost use Rattle.guest_space.specs.Registers.{with_registers};
 ghost use Rattle.insn_forms.specs.Kinds.{is_width};
-ghost use Rattle.insn_plan.specs.{Looks.{CarriesOutBy}, Plan.{CarriesOut}};
+ghost use Rattle.insn_plan.specs.{Looks.{CarriesOutBy}, Plan.{CarriesOut}, Registers.{register, with_register}};
 
 use crate::arithmetic::{at_register, at_width, change_first, flags_of};
+use crate::shaped::RegisterRow;
 use crate::shift_operations::{Shift, ShiftAt};
 use client_world::Flags;
 use cpu_alu::{shld, shrd};
@@ -18,14 +20,38 @@ use insn_plan::{
     source_after,
 };
 
-// The result and the flags of a shift.
+// The result and the flags of a shift by a count, of which the low byte counts.
 #[inline(always)]
-fn shifted<const W: u8, O: ShiftAt<W>>(m: &Machine, a: u32, n: u8) -> (u32, Flags)
+fn shifted<const W: u8, O: ShiftAt<W>>(m: &Machine, a: u32, count: u32) -> (u32, Flags)
     requires { IsWidth W }
-    ensures { result ≡ O.formula W (cut W a) n m.now.world.regs.flags }
+    ensures { result ≡ O.formula W (cut W a) (cut 8 count) m.now.world.regs.flags }
 {
-    let (v, flags) = O::apply(cut::<W>(u64::from(a)), n, flags_of(m));
+    let (v, flags) = O::apply(cut::<W>(u64::from(a)), (count % 0x100) as u8, flags_of(m));
     (v.get(), flags)
+}
+
+// A register of a width becomes itself moved, by a shift of W bits.
+#[inline(always)]
+fn shift_register<const W: u8, O: ShiftAt<W>>(m: &mut Machine, own: u8, n: u8, count: u32)
+    requires { IsWidth W }
+    ensures { let r = m.old.world.regs in
+        let result = O.formula W (cut W (register r own n)) (cut 8 count) r.flags in
+        m.new ≡ with_registers (with_register (record r { flags = result.1 }) own n result.0) m.old }
+{
+    let a = register(m.registers(), own, n);
+    let (v, flags) = shifted::<W, O>(m, a, count);
+    m.set_flags(flags);
+    put_register(m, own, n, v);
+}
+
+// The row of a shift on a register of W bits.
+#[inline(always)]
+fn shift_on<const W: u8, O: ShiftAt<W>>(m: &mut Machine, i: &Insn, n: u8, count: u32)
+    requires width { IsWidth W }
+    requires operands { IsOnRegister m.old.world i.now W n count }
+    ensures { CarriesOut m.old m.new (Ok tt) (shift O.formula m.old.world i.now) }
+{
+    shift_register::<W, O>(m, W, n, count);
 }
 
 // The row of a shift of W bits.
@@ -38,7 +64,7 @@ fn shift_at<const W: u8, L: Look, O: ShiftAt<W>>(m: &mut Machine, i: &Insn) -> R
     requires same { i.now.width ≡ W }
     ensures { CarriesOutBy L.reported m.old m.new result (shift O.formula m.old.world i.now) }
 {
-    change_first!(L, W, m, i, a, count: 8 => shifted::<W, O>(m, a, (count % 0x100) as u8))
+    change_first!(L, W, m, i, a, count: 8 => shifted::<W, O>(m, a, count), own, n => shift_register::<W, O>(m, own, n, count))
 }
 
 /// SHL, SHR, SAR, ROL, ROR, RCL, RCR. Source: 80386 Programmer's Reference Manual, ch. 17.
@@ -51,6 +77,23 @@ impl<O: Shift> InsnRow for Shifting<O> {
     #[inline(always)]
     fn carry_out<L: Look>(self, m: &mut Machine, i: &Insn) -> Result<(), L::Missed> {
         at_width!(i.width, shift_at, L, O, m, i)
+    }
+}
+
+impl<O: Shift> RegisterRow for Shifting<O> {
+    #[inline(always)]
+    fn on_byte(self, m: &mut Machine, i: &Insn, n: u8, b: u32) {
+        shift_on::<8, O>(m, i, n, b);
+    }
+
+    #[inline(always)]
+    fn on_word(self, m: &mut Machine, i: &Insn, n: u8, b: u32) {
+        shift_on::<16, O>(m, i, n, b);
+    }
+
+    #[inline(always)]
+    fn on_doubleword(self, m: &mut Machine, i: &Insn, n: u8, b: u32) {
+        shift_on::<32, O>(m, i, n, b);
     }
 }
 
