@@ -1,76 +1,61 @@
 -- What the rows of instructions whose first operand is a register make of the machine.
 use Rattle.std.proofs.Common.{◌≡◌, ℕ, ◌<◌, ◌%◌, ◌∙◌, Bool, Ok, ap, arith, refl, sym}
-use Rattle.std.specs.declared.result.Result.{Result}
-use Rattle.client_world.specs.{declared.faults.Event.{Event}, declared.registers.Regs.{Regs}, World.{World}}
+use Rattle.client_world.specs.{declared.registers.Regs.{Regs}, World.{World}}
 use Rattle.cpu_values.specs.Word.{cut}
 use Rattle.exec_core.specs.{Arithmetic.{Formula, SingleFormula, binary, compare, unary}, Moves.{lea, mov, operand_offset}}
-use Rattle.exec_core.specs.{Shaped.{IsOnRegister}, Shifts.{shift}}
+use Rattle.exec_core.specs.{Shaped.{IsOnRegister, with_result}, Shifts.{shift}}
 use Rattle.guest_space.specs.{Pending.{first_write_fault, after_writes}, Registers.{with_registers}}
 use Rattle.host_memory.specs.View.{MachineView}
 use Rattle.insn_forms.specs.{declared.insn.Insn.{Insn}, declared.insn.Operand.TheVariants.{Reg}, Shapes.{HasShape, shape_width}}
-use Rattle.insn_plan.specs.{Act.{Act, Given, value_of}, Operands.{source}, Plan.{after_plan, plan_result, after_commit}}
+use Rattle.insn_plan.specs.{Act.{Given, value_of}, Operands.{source}, Plan.{CarriesOut, after_plan, after_commit}}
 use Rattle.insn_plan.specs.Registers.{register, with_register}
 use Rattle.insn_plan.proofs.Registered.{put_in_register, put_with_flags_in_register}
-
--- an act, carried out
-abbrev pub carried_out : MachineView → Act → Result MachineView Event
-carried_out v act = after_plan v (plan_result v.world act)
 
 from_register : (r : Regs) (addr32 : Bool) (width own n : ℕ) → source r addr32 width (Reg own n) ≡ Given (register r own n)
 unfolding source
 from_register r addr32 width own n = refl
 
 pub binary_on : (formula : Formula) (v : MachineView) (i : Insn) (width n b : ℕ) → IsOnRegister v.world i width n b →
-    let r = v.world.regs in
-    let result = formula width (cut width (register r width n)) (cut width b) r.flags in
-    carried_out v (binary formula v.world i) ≡ Ok (with_registers (with_register (record r { flags = result.1 }) width n result.0) v)
+    let result = formula width (cut width (register v.world.regs width n)) (cut width b) v.world.regs.flags in
+    CarriesOut v (with_result width n result v) (Ok tt) (binary formula v.world i)
 unfolding binary value_of after_plan
 binary_on formula v i width n b h =
-    let r = v.world.regs in
-    let result = formula width (cut width (register r width n)) (cut width b) r.flags in
-    rw (h.width, h.first, from_register r i.addr32 width width n, h.second width)
-    (put_with_flags_in_register v result.1 r i.addr32 width width n result.0)
+    rw (h.width, h.first, from_register v.world.regs i.addr32 width width n, h.second width)
+    (put_with_flags_in_register v _ v.world.regs i.addr32 width width n _)
 
 pub compare_on : (formula : Formula) (v : MachineView) (i : Insn) (width n a b : ℕ) → IsOnRegister v.world i width n b →
     a ≡ register v.world.regs width n →
-    let r = v.world.regs in
-    carried_out v (compare formula v.world i)
-    ≡ Ok (with_registers (record r { flags = (formula width (cut width a) (cut width b) r.flags).1 }) v)
+    let flags = (formula width (cut width a) (cut width b) v.world.regs.flags).1 in
+    CarriesOut v (with_registers (record v.world.regs { flags = flags }) v) (Ok tt) (compare formula v.world i)
 unfolding compare value_of after_plan after_commit first_write_fault after_writes
 compare_on formula v i width n a b h is =
     rw (h.width, h.first, from_register v.world.regs i.addr32 width width n, sym is, h.second width) refl
 
 pub unary_on : (formula : SingleFormula) (v : MachineView) (i : Insn) (width n b : ℕ) → IsOnRegister v.world i width n b →
-    let r = v.world.regs in
-    let result = formula width (cut width (register r width n)) r.flags in
-    carried_out v (unary formula v.world i) ≡ Ok (with_registers (with_register (record r { flags = result.1 }) width n result.0) v)
+    let result = formula width (cut width (register v.world.regs width n)) v.world.regs.flags in
+    CarriesOut v (with_result width n result v) (Ok tt) (unary formula v.world i)
 unfolding unary value_of after_plan
 unary_on formula v i width n b h =
-    let r = v.world.regs in
-    let result = formula width (cut width (register r width n)) r.flags in
-    rw (h.width, h.first, from_register r i.addr32 width width n)
-    (put_with_flags_in_register v result.1 r i.addr32 width width n result.0)
+    rw (h.width, h.first, from_register v.world.regs i.addr32 width width n)
+    (put_with_flags_in_register v _ v.world.regs i.addr32 width width n _)
 
 pub shift_on : (formula : Formula) (v : MachineView) (i : Insn) (width n b : ℕ) → IsOnRegister v.world i width n b →
-    let r = v.world.regs in
-    let result = formula width (cut width (register r width n)) (cut 8 b) r.flags in
-    carried_out v (shift formula v.world i) ≡ Ok (with_registers (with_register (record r { flags = result.1 }) width n result.0) v)
+    let result = formula width (cut width (register v.world.regs width n)) (cut 8 b) v.world.regs.flags in
+    CarriesOut v (with_result width n result v) (Ok tt) (shift formula v.world i)
 unfolding shift value_of after_plan
 shift_on formula v i width n b h =
-    let r = v.world.regs in
-    let result = formula width (cut width (register r width n)) (cut 8 b) r.flags in
-    rw (h.width, h.first, from_register r i.addr32 width width n, h.second 8)
-    (put_with_flags_in_register v result.1 r i.addr32 width width n result.0)
+    rw (h.width, h.first, from_register v.world.regs i.addr32 width width n, h.second 8)
+    (put_with_flags_in_register v _ v.world.regs i.addr32 width width n _)
 
 pub mov_on : (v : MachineView) (i : Insn) (width n b : ℕ) → IsOnRegister v.world i width n b →
-    carried_out v (mov v.world i) ≡ Ok (with_registers (with_register v.world.regs width n b) v)
+    CarriesOut v (with_registers (with_register v.world.regs width n b) v) (Ok tt) (mov v.world i)
 unfolding mov value_of after_plan
 mov_on v i width n b h =
     rw (h.width, h.first, h.second width) (put_in_register v v.world.regs i.addr32 width width n b)
 
 pub lea_on : (v : MachineView) (i : Insn) (width n : ℕ) → i.width ≡ width → i.first ≡ Reg width n →
-    carried_out v (lea v.world i)
-    ≡ Ok (with_registers (with_register v.world.regs width n (cut width (operand_offset v.world i i.second))) v)
+    let off = cut width (operand_offset v.world i i.second) in
+    CarriesOut v (with_registers (with_register v.world.regs width n off) v) (Ok tt) (lea v.world i)
 unfolding lea after_plan
 lea_on v i width n wide first =
     rw (wide, first) (put_in_register v v.world.regs i.addr32 width width n (cut width (operand_offset v.world i i.second)))

@@ -4,13 +4,13 @@ insn_plan::specs::Operands::put_operand, insn_plan::specs::Act::value_of, crate:
 crate::specs::Arithmetic::unary, insn_plan::specs::Plan::after_plan, insn_plan::specs::Plan::after_commit, //
 guest_space::specs::Pending::first_write_fault, guest_space::specs::Pending::after_writes))]
 
-ghost use Rattle.std.specs.Prelude.{◌≡◌, IsTrue, Ok};
+ghost use Rattle.std.specs.Prelude.{◌≡◌, IsTrue};
 ghost use Rattle.cpu_alu.specs.Sums.{sub_of};
 ghost use Rattle.cpu_values.specs.Word.{IsWidth, cut};
-ghost use Rattle.exec_core.specs.{Arithmetic.{binary, compare, unary}, Shaped.{IsOnRegister}};
+ghost use Rattle.exec_core.specs.{Arithmetic.{binary, compare, unary}, Shaped.{with_result}};
 ghost use Rattle.guest_space.specs.Registers.{with_registers};
 ghost use Rattle.insn_forms.specs.Kinds.{is_width};
-ghost use Rattle.insn_plan.specs.{Looks.{CarriesOutBy}, Plan.{CarriesOut}, Registers.{register, with_register}};
+ghost use Rattle.insn_plan.specs.{Looks.{CarriesOutBy}, Registers.{register}};
 
 use crate::operations::{Binary, BinaryAt, Unary, UnaryAt};
 use crate::shaped::RegisterRow;
@@ -133,23 +133,12 @@ fn result_of<const W: u8, O: BinaryAt<W>>(m: &Machine, a: u32, b: u32) -> (u32, 
 fn change<const W: u8, O: BinaryAt<W>>(m: &mut Machine, own: u8, n: u8, b: u32)
     requires { IsWidth W }
     ensures { let r = m.old.world.regs in
-        let result = O.formula W (cut W (register r own n)) (cut W b) r.flags in
-        m.new ≡ with_registers (with_register (record r { flags = result.1 }) own n result.0) m.old }
+        m.new ≡ with_result own n (O.formula W (cut W (register r own n)) (cut W b) r.flags) m.old }
 {
     let a = register(m.registers(), own, n);
     let (v, flags) = result_of::<W, O>(m, a, b);
     m.set_flags(flags);
     put_register(m, own, n, v);
-}
-
-// The row of an operation of two numbers on a register of W bits.
-#[inline(always)]
-fn change_on<const W: u8, O: BinaryAt<W>>(m: &mut Machine, i: &Insn, n: u8, b: u32)
-    requires width { IsWidth W }
-    requires operands { IsOnRegister m.old.world i.now W n b }
-    ensures { CarriesOut m.old m.new (Ok tt) (binary O.formula m.old.world i.now) }
-{
-    change::<W, O>(m, W, n, b);
 }
 
 // The row of an operation of two numbers of W bits.
@@ -178,20 +167,10 @@ impl<O: Binary> InsnRow for Arithmetic<O> {
     }
 }
 
-impl<O: Binary> RegisterRow for Arithmetic<O> {
+impl<const W: u8, O: Binary + BinaryAt<W>> RegisterRow<W> for Arithmetic<O> {
     #[inline(always)]
-    fn on_byte(self, m: &mut Machine, i: &Insn, n: u8, b: u32) {
-        change_on::<8, O>(m, i, n, b);
-    }
-
-    #[inline(always)]
-    fn on_word(self, m: &mut Machine, i: &Insn, n: u8, b: u32) {
-        change_on::<16, O>(m, i, n, b);
-    }
-
-    #[inline(always)]
-    fn on_doubleword(self, m: &mut Machine, i: &Insn, n: u8, b: u32) {
-        change_on::<32, O>(m, i, n, b);
+    fn on_register(self, m: &mut Machine, i: &Insn, n: u8, b: u32) {
+        change::<W, O>(m, W, n, b);
     }
 }
 
@@ -204,17 +183,6 @@ fn set_flags_of<const W: u8, O: BinaryAt<W>>(m: &mut Machine, a: u32, b: u32)
 {
     let (_, flags) = result_of::<W, O>(m, a, b);
     m.set_flags(flags);
-}
-
-// The row of a comparison of a register of W bits.
-#[inline(always)]
-fn compare_on<const W: u8, O: BinaryAt<W>>(m: &mut Machine, i: &Insn, n: u8, b: u32)
-    requires width { IsWidth W }
-    requires operands { IsOnRegister m.old.world i.now W n b }
-    ensures { CarriesOut m.old m.new (Ok tt) (compare O.formula m.old.world i.now) }
-{
-    let a = register(m.registers(), W, n);
-    set_flags_of::<W, O>(m, a, b);
 }
 
 // The row of a comparison of two numbers of W bits.
@@ -246,20 +214,11 @@ impl<O: Binary> InsnRow for Comparison<O> {
     }
 }
 
-impl<O: Binary> RegisterRow for Comparison<O> {
+impl<const W: u8, O: Binary + BinaryAt<W>> RegisterRow<W> for Comparison<O> {
     #[inline(always)]
-    fn on_byte(self, m: &mut Machine, i: &Insn, n: u8, b: u32) {
-        compare_on::<8, O>(m, i, n, b);
-    }
-
-    #[inline(always)]
-    fn on_word(self, m: &mut Machine, i: &Insn, n: u8, b: u32) {
-        compare_on::<16, O>(m, i, n, b);
-    }
-
-    #[inline(always)]
-    fn on_doubleword(self, m: &mut Machine, i: &Insn, n: u8, b: u32) {
-        compare_on::<32, O>(m, i, n, b);
+    fn on_register(self, m: &mut Machine, i: &Insn, n: u8, b: u32) {
+        let a = register(m.registers(), W, n);
+        set_flags_of::<W, O>(m, a, b);
     }
 }
 
@@ -291,23 +250,12 @@ fn result_of_one<const W: u8, O: UnaryAt<W>>(m: &Machine, a: u32) -> (u32, Flags
 fn change_one<const W: u8, O: UnaryAt<W>>(m: &mut Machine, own: u8, n: u8)
     requires { IsWidth W }
     ensures { let r = m.old.world.regs in
-        let result = O.formula W (cut W (register r own n)) r.flags in
-        m.new ≡ with_registers (with_register (record r { flags = result.1 }) own n result.0) m.old }
+        m.new ≡ with_result own n (O.formula W (cut W (register r own n)) r.flags) m.old }
 {
     let a = register(m.registers(), own, n);
     let (v, flags) = result_of_one::<W, O>(m, a);
     m.set_flags(flags);
     put_register(m, own, n, v);
-}
-
-// The row of an operation of one number on a register of W bits.
-#[inline(always)]
-fn change_one_on<const W: u8, O: UnaryAt<W>>(m: &mut Machine, i: &Insn, n: u8, b: u32)
-    requires width { IsWidth W }
-    requires operands { IsOnRegister m.old.world i.now W n b }
-    ensures { CarriesOut m.old m.new (Ok tt) (unary O.formula m.old.world i.now) }
-{
-    change_one::<W, O>(m, W, n);
 }
 
 // The row of an operation of one number of W bits.
@@ -333,19 +281,9 @@ impl<O: Unary> InsnRow for OneOperand<O> {
     }
 }
 
-impl<O: Unary> RegisterRow for OneOperand<O> {
+impl<const W: u8, O: Unary + UnaryAt<W>> RegisterRow<W> for OneOperand<O> {
     #[inline(always)]
-    fn on_byte(self, m: &mut Machine, i: &Insn, n: u8, b: u32) {
-        change_one_on::<8, O>(m, i, n, b);
-    }
-
-    #[inline(always)]
-    fn on_word(self, m: &mut Machine, i: &Insn, n: u8, b: u32) {
-        change_one_on::<16, O>(m, i, n, b);
-    }
-
-    #[inline(always)]
-    fn on_doubleword(self, m: &mut Machine, i: &Insn, n: u8, b: u32) {
-        change_one_on::<32, O>(m, i, n, b);
+    fn on_register(self, m: &mut Machine, i: &Insn, n: u8, b: u32) {
+        change_one::<W, O>(m, W, n);
     }
 }

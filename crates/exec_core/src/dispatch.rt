@@ -19,7 +19,7 @@ use crate::operations::{
     SubtractWithBorrow,
 };
 use crate::products::{Signed, Unsigned, divide, multiply, multiply_signed};
-use crate::shaped::{run_one, run_two, run_with_number};
+use crate::shaped::{run_one, run_two};
 use crate::shift_operations::{
     RotateLeft, RotateLeftThroughCarry, RotateRight, RotateRightThroughCarry, ShiftArithmeticRight,
     ShiftLeft, ShiftRight,
@@ -99,13 +99,13 @@ pub fn carry_out_core(
         Op::Aas => Some(adjust_after_subtraction(m)),
         Op::Aam => Some(adjust_after_product(m, insn)),
         Op::Aad => Some(adjust_before_division(m, insn)),
-        Op::Rol => Some(run_with_number(Shifting(RotateLeft), m, insn, shape)),
-        Op::Ror => Some(run_with_number(Shifting(RotateRight), m, insn, shape)),
-        Op::Rcl => Some(run_with_number(Shifting(RotateLeftThroughCarry), m, insn, shape)),
-        Op::Rcr => Some(run_with_number(Shifting(RotateRightThroughCarry), m, insn, shape)),
-        Op::Shl => Some(run_with_number(Shifting(ShiftLeft), m, insn, shape)),
-        Op::Shr => Some(run_with_number(Shifting(ShiftRight), m, insn, shape)),
-        Op::Sar => Some(run_with_number(Shifting(ShiftArithmeticRight), m, insn, shape)),
+        Op::Rol => Some(run_two(Shifting(RotateLeft), m, insn, shape)),
+        Op::Ror => Some(run_two(Shifting(RotateRight), m, insn, shape)),
+        Op::Rcl => Some(run_two(Shifting(RotateLeftThroughCarry), m, insn, shape)),
+        Op::Rcr => Some(run_two(Shifting(RotateRightThroughCarry), m, insn, shape)),
+        Op::Shl => Some(run_two(Shifting(ShiftLeft), m, insn, shape)),
+        Op::Shr => Some(run_two(Shifting(ShiftRight), m, insn, shape)),
+        Op::Sar => Some(run_two(Shifting(ShiftArithmeticRight), m, insn, shape)),
         Op::Shld => Some(shift_in::<ShiftLeftDouble>(m, insn)),
         Op::Shrd => Some(shift_in::<ShiftRightDouble>(m, insn)),
         Op::Bt => Some(bit_test(m, insn)),

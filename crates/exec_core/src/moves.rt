@@ -7,7 +7,6 @@ guest_space::specs::Pending::after_writes))]
 ghost use Rattle.std.specs.Prelude.{◌≡◌, ◌<◌, ◌^◌, IsTrue, Ok};
 ghost use Rattle.cpu_values.specs.Word.{cut};
 ghost use Rattle.exec_core.specs.Moves.{mov, movzx, movsx, xchg, lea, xlat, cbw, cwd, sign_extended, sign_bits, half_width, operand_offset};
-ghost use Rattle.exec_core.specs.Shaped.{IsOnRegister};
 ghost use Rattle.insn_forms.specs.{Kinds.{is_width}, Shapes.{HasShape, shape_width}};
 ghost use Rattle.insn_plan.specs.{Looks.{CarriesOutBy}, Plan.{CarriesOut}};
 
@@ -69,29 +68,10 @@ impl InsnRow for Mov {
     }
 }
 
-// The row of MOV to a register.
-#[inline(always)]
-fn mov_on(m: &mut Machine, i: &Insn, width: u8, n: u8, v: u32)
-    requires { IsOnRegister m.old.world i.now width n v }
-    ensures { CarriesOut m.old m.new (Ok tt) (mov m.old.world i.now) }
-{
-    put_register(m, width, n, v);
-}
-
-impl RegisterRow for Mov {
+impl<const W: u8> RegisterRow<W> for Mov {
     #[inline(always)]
-    fn on_byte(self, m: &mut Machine, i: &Insn, n: u8, b: u32) {
-        mov_on(m, i, 8, n, b);
-    }
-
-    #[inline(always)]
-    fn on_word(self, m: &mut Machine, i: &Insn, n: u8, b: u32) {
-        mov_on(m, i, 16, n, b);
-    }
-
-    #[inline(always)]
-    fn on_doubleword(self, m: &mut Machine, i: &Insn, n: u8, b: u32) {
-        mov_on(m, i, 32, n, b);
+    fn on_register(self, m: &mut Machine, i: &Insn, n: u8, b: u32) {
+        put_register(m, W, n, b);
     }
 }
 

@@ -1,11 +1,10 @@
 // Shifts and rotates, and the double shifts.
-ghost use Rattle.std.specs.Prelude.{◌≡◌, IsTrue, Ok};
+ghost use Rattle.std.specs.Prelude.{◌≡◌, IsTrue};
 ghost use Rattle.cpu_alu.specs.DoubleShifts.{shld_of, shrd_of};
 ghost use Rattle.cpu_values.specs.Word.{IsWidth, cut};
-ghost use Rattle.exec_core.specs.{Shaped.{IsOnRegister}, Shifts.{DoubleFormula, shift, shift_in}};
-ghost use Rattle.guest_space.specs.Registers.{with_registers};
+ghost use Rattle.exec_core.specs.{Shaped.{with_result}, Shifts.{DoubleFormula, shift, shift_in}};
 ghost use Rattle.insn_forms.specs.Kinds.{is_width};
-ghost use Rattle.insn_plan.specs.{Looks.{CarriesOutBy}, Plan.{CarriesOut}, Registers.{register, with_register}};
+ghost use Rattle.insn_plan.specs.{Looks.{CarriesOutBy}, Plan.{CarriesOut}, Registers.{register}};
 
 use crate::arithmetic::{at_register, at_width, change_first, flags_of};
 use crate::shaped::RegisterRow;
@@ -35,23 +34,12 @@ fn shifted<const W: u8, O: ShiftAt<W>>(m: &Machine, a: u32, count: u32) -> (u32,
 fn shift_register<const W: u8, O: ShiftAt<W>>(m: &mut Machine, own: u8, n: u8, count: u32)
     requires { IsWidth W }
     ensures { let r = m.old.world.regs in
-        let result = O.formula W (cut W (register r own n)) (cut 8 count) r.flags in
-        m.new ≡ with_registers (with_register (record r { flags = result.1 }) own n result.0) m.old }
+        m.new ≡ with_result own n (O.formula W (cut W (register r own n)) (cut 8 count) r.flags) m.old }
 {
     let a = register(m.registers(), own, n);
     let (v, flags) = shifted::<W, O>(m, a, count);
     m.set_flags(flags);
     put_register(m, own, n, v);
-}
-
-// The row of a shift on a register of W bits.
-#[inline(always)]
-fn shift_on<const W: u8, O: ShiftAt<W>>(m: &mut Machine, i: &Insn, n: u8, count: u32)
-    requires width { IsWidth W }
-    requires operands { IsOnRegister m.old.world i.now W n count }
-    ensures { CarriesOut m.old m.new (Ok tt) (shift O.formula m.old.world i.now) }
-{
-    shift_register::<W, O>(m, W, n, count);
 }
 
 // The row of a shift of W bits.
@@ -80,20 +68,10 @@ impl<O: Shift> InsnRow for Shifting<O> {
     }
 }
 
-impl<O: Shift> RegisterRow for Shifting<O> {
+impl<const W: u8, O: Shift + ShiftAt<W>> RegisterRow<W> for Shifting<O> {
     #[inline(always)]
-    fn on_byte(self, m: &mut Machine, i: &Insn, n: u8, b: u32) {
-        shift_on::<8, O>(m, i, n, b);
-    }
-
-    #[inline(always)]
-    fn on_word(self, m: &mut Machine, i: &Insn, n: u8, b: u32) {
-        shift_on::<16, O>(m, i, n, b);
-    }
-
-    #[inline(always)]
-    fn on_doubleword(self, m: &mut Machine, i: &Insn, n: u8, b: u32) {
-        shift_on::<32, O>(m, i, n, b);
+    fn on_register(self, m: &mut Machine, i: &Insn, n: u8, b: u32) {
+        shift_register::<W, O>(m, W, n, b);
     }
 }
 

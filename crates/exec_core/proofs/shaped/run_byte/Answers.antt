@@ -1,7 +1,0 @@
-use Rattle.exec_core.proofs.OnRegisters.{on_shape}
-use Rattle.exec_core.proofs.shaped.run_byte.Goals as goal
-
-pub on_byte-requires : goal.on_byte-requires
-on_byte-requires g c =
-    on_shape c.args.m.now.world c.args.i.now c.args.shape c.args.known 8 c.second_number-b.result c.requires.shape c.requires.known
-    c.requires.some c.requires.width c.second_number-b.ensures
