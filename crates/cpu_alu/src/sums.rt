@@ -193,14 +193,8 @@ pub fn inc<const W: u8>(a: Word<W>, f: Flags) -> (Word<W>, Flags)
 {
     let (r, flags) = add_carry(a, cut::<W>(1), false, f);
     // Of a sum with 1 this says as much as the signs of both numbers, and takes fewer instructions.
-    (
-        r,
-        Flags {
-            cf: f.cf,
-            of: is_least(r),
-            ..flags
-        },
-    )
+    let (cf, of) = (f.cf, is_least(r));
+    (r, Flags { cf, of, ..flags })
 }
 
 /// DEC: a − 1; CF is kept. W is 8, 16 or 32.
@@ -212,14 +206,8 @@ pub fn dec<const W: u8>(a: Word<W>, f: Flags) -> (Word<W>, Flags)
     ensures { result ≡ dec_of W a.entry f }
 {
     let (r, flags) = sub_borrow(a, cut::<W>(1), false, f);
-    (
-        r,
-        Flags {
-            cf: f.cf,
-            of: is_least(a),
-            ..flags
-        },
-    )
+    let (cf, of) = (f.cf, is_least(a));
+    (r, Flags { cf, of, ..flags })
 }
 
 /// NEG: 0 − a, with all six status flags: CF says that a isn't 0. W is 8, 16 or 32.
