@@ -3,7 +3,7 @@ use Rattle.std.proofs.Common.{◌≡◌, ℕ, ◌+◌, ◌-◌, ◌/◌, ◌%◌
 use Rattle.std.proofs.lemmas.Nat.Bits.{bit_at_and, bit_at_xor}
 use Rattle.std.specs.Int.Bits.{bit_and, bit_xor}
 use Rattle.cpu_values.specs.Word.{IsWidth, cut}
-use Rattle.cpu_alu.specs.{Results.{low_bit}, Sums.{word_sum}}
+use Rattle.cpu_alu.specs.{Results.{low_bit}, Sums.{difference_overflows, sum_overflows, word_sum}}
 
 pub odd_above : (a b r : ℕ) → low_bit (bit_xor (bit_xor a b) r / 0x10) ≡ low_bit (a / 0x10 + b / 0x10 + r / 0x10)
 odd_above a b r = ap (λ (x : ℕ). nat_eq x 1) (omega (arith, bit_at_xor (bit_xor a b) r 4, bit_at_xor a b 4))
@@ -24,3 +24,14 @@ pub difference_borrows : (w a b c : ℕ) → IsWidth w → a < 2 ^ w → b < 2 ^
 difference_borrows w a b c (inl e) small less few = rw e (search rules)
 difference_borrows w a b c (inr (inl e)) small less few = rw e (search rules)
 difference_borrows w a b c (inr (inr e)) small less few = rw e (search rules)
+
+-- OF of a number and 1 by the least number, which the sum comes to, or from which 1 is taken
+pub least_after_one_more : (w a : ℕ) → IsWidth w → a < 2 ^ w → nat_eq (word_sum w a 1 0) (2 ^ (w - 1)) ≡ sum_overflows w a 1 0
+least_after_one_more w a (inl e) small = rw e (search rules)
+least_after_one_more w a (inr (inl e)) small = rw e (search rules)
+least_after_one_more w a (inr (inr e)) small = rw e (search rules)
+
+pub least_before_one_less : (w a : ℕ) → IsWidth w → a < 2 ^ w → nat_eq a (2 ^ (w - 1)) ≡ difference_overflows w a 1 0
+least_before_one_less w a (inl e) small = rw e (search rules)
+least_before_one_less w a (inr (inl e)) small = rw e (search rules)
+least_before_one_less w a (inr (inr e)) small = rw e (search rules)

@@ -2,7 +2,7 @@
 #![tactic(auto, unfolding(crate::specs::Sums::add_of, crate::specs::Sums::adc_of, crate::specs::Sums::sub_of, crate::specs::Sums::sbb_of, //
 crate::specs::Sums::inc_of, crate::specs::Sums::dec_of, crate::specs::Sums::neg_of))]
 
-ghost use Rattle.std.specs.Prelude.{◌≡◌, ◌+◌, ◌-◌, ◌/◌, ◌%◌, ◌^◌, ◌<◌, ◌&&◌, nat_le, nat_lt};
+ghost use Rattle.std.specs.Prelude.{◌≡◌, ◌+◌, ◌-◌, ◌/◌, ◌%◌, ◌^◌, ◌<◌, ◌&&◌, nat_eq, nat_le, nat_lt};
 ghost use Rattle.cpu_values.specs.Word.{IsWidth};
 ghost use Rattle.cpu_alu.specs.{Results.{bit_of, low_bit}, Sums.{word_sum, word_difference, sum_overflows, sum_with_flags}};
 ghost use Rattle.cpu_alu.specs.Sums.{difference_overflows, difference_with_flags, add_of, adc_of, sub_of, sbb_of, inc_of, dec_of, neg_of};
@@ -174,26 +174,40 @@ pub fn sbb<const W: u8>(a: Word<W>, b: Word<W>, f: Flags) -> (Word<W>, Flags)
     sub_borrow(a, b, f.cf, f)
 }
 
+// The word is the least signed number: only its highest bit is set.
+#[inline(always)]
+fn is_least<const W: u8>(a: Word<W>) -> bool
+    requires { IsWidth W }
+    ensures { result ≡ nat_eq a.entry (2 ^ (W - 1)) }
+{
+    u64::from(a.get()) == 1u64 << (W - 1)
+}
+
 /// INC: a + 1; CF is kept. W is 8, 16 or 32.
 /// Source: 80386 Programmer's Reference Manual, ch. 17, INC.
 #[inline(always)]
+#[tactic(auto, unfolding(crate::specs::Sums::inc_of), using(crate::proofs::Signs::least_after_one_more))]
 pub fn inc<const W: u8>(a: Word<W>, f: Flags) -> (Word<W>, Flags)
     requires { IsWidth W }
     ensures { result ≡ inc_of W a.entry f }
 {
     let (r, flags) = add_carry(a, cut::<W>(1), false, f);
-    (r, Flags { cf: f.cf, ..flags })
+    // Of a sum with 1 this says as much as the signs of both numbers, and takes fewer instructions.
+    let (cf, of) = (f.cf, is_least(r));
+    (r, Flags { cf, of, ..flags })
 }
 
 /// DEC: a − 1; CF is kept. W is 8, 16 or 32.
 /// Source: 80386 Programmer's Reference Manual, ch. 17, DEC.
 #[inline(always)]
+#[tactic(auto, unfolding(crate::specs::Sums::dec_of), using(crate::proofs::Signs::least_before_one_less))]
 pub fn dec<const W: u8>(a: Word<W>, f: Flags) -> (Word<W>, Flags)
     requires { IsWidth W }
     ensures { result ≡ dec_of W a.entry f }
 {
     let (r, flags) = sub_borrow(a, cut::<W>(1), false, f);
-    (r, Flags { cf: f.cf, ..flags })
+    let (cf, of) = (f.cf, is_least(a));
+    (r, Flags { cf, of, ..flags })
 }
 
 /// NEG: 0 − a, with all six status flags: CF says that a isn't 0. W is 8, 16 or 32.

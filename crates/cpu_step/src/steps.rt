@@ -1,7 +1,7 @@
 // The client's next instruction.
 ghost use Rattle.std.specs.Prelude.{◌≡◌, ◌+◌, ◌<◌, OnOk};
 ghost use Rattle.guest_space.specs.Windows.{IsWindow};
-ghost use Rattle.insn_forms.specs.Kinds.{IsWellFormed};
+ghost use Rattle.insn_forms.specs.{Kinds.{IsWellFormed}, Shapes.{HasShape}};
 ghost use Rattle.insn_plan.specs.Plan.{CarriesOut, Follows};
 ghost use Rattle.cpu_step.specs.Step.{view_with_next_eip, client_row, client_step, after_instruction, has_big_code, incomplete_fault};
 
@@ -34,29 +34,31 @@ pub fn move_past(m: &mut Machine, len: u8)
     m.set_eip(m.registers().eip.wrapping_add(u32::from(len)));
 }
 
-// Runs an instruction whose EIP is already after it, by the crate that has it.
+// Runs an instruction of a shape, whose EIP is already after it, by the crate that has it.
 #[inline(always)]
 #[tactic(auto, unfolding(crate::specs::Step::client_row), using(crate::proofs::CoreOrFlow::flow_where_not_core))]
-fn run(m: &mut Machine, insn: &Insn, len: u8) -> Result<(), Raised>
-    requires { IsWellFormed insn.now }
+fn run(m: &mut Machine, insn: &Insn, len: u8, shape: u8) -> Result<(), Raised>
+    requires well_formed { IsWellFormed insn.now }
+    requires shape { HasShape shape insn.now }
     ensures { CarriesOut m.old m.new result (client_row m.old.world insn.now len) }
 {
-    match carry_out_core(m, insn, len) {
+    match carry_out_core(m, insn, len, shape) {
         Some(result) => result,
         None => carry_out_flow(m, insn, len),
     }
 }
 
-// Executes an instruction of `len` bytes; an event leaves the machine as it was, EIP too.
+// Executes an instruction of `len` bytes and a shape; an event leaves the machine as it was, EIP too.
 #[inline(always)]
 #[tactic(auto, unfolding(crate::specs::Step::after_instruction))]
-fn execute(m: &mut Machine, insn: &Insn, len: u8) -> Result<(), Raised>
-    requires { IsWellFormed insn.now }
+fn execute(m: &mut Machine, insn: &Insn, len: u8, shape: u8) -> Result<(), Raised>
+    requires well_formed { IsWellFormed insn.now }
+    requires shape { HasShape shape insn.now }
     ensures { Follows m.old m.new result (after_instruction m.old insn.now len) }
 {
     let start = m.registers().eip;
     move_past(m, len);
-    match run(m, insn, len) {
+    match run(m, insn, len, shape) {
         Ok(()) => Ok(()),
         Err(raised) => {
             m.set_eip(start);
@@ -95,7 +97,7 @@ pub fn step_raised(m: &mut Machine) -> Result<(), Raised>
     match decode(&code, has_big_code(m)) {
         Decoded::Whole(insn, len) => {
             every_instruction_is_well_formed();
-            execute(m, &insn, len)
+            execute(m, &insn, len, insn.shape())
         }
         Decoded::Invalid => Err(Raised::from(Fault {
             number: INVALID_OPCODE,
@@ -149,7 +151,7 @@ fn learn_and_step(
 {
     let words = m.words_in(window, from);
     match memo.learn(key_of(window, from), words, window.big) {
-        Some(entry) => execute(m, &entry.insn, entry.len),
+        Some(entry) => execute(m, &entry.insn, entry.len, entry.shape),
         None => step_raised(m),
     }
 }
@@ -175,7 +177,7 @@ pub fn step_in_window(
     m.holds_world();
     let low = m.words_in(window, from).low;
     match memo.known(key_of(window, from), low, window.big) {
-        Some(entry) => execute(m, &entry.insn, entry.len),
+        Some(entry) => execute(m, &entry.insn, entry.len, entry.shape),
         None => learn_and_step(m, memo, window, from),
     }
 }

@@ -1,2 +1,3 @@
 pub mod BitLaws
+pub mod OnRegisters
 pub mod Parts

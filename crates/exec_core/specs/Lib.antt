@@ -8,3 +8,4 @@ pub mod Products
 pub mod Shifts
 pub mod Stacks
 pub mod Strings
+pub mod Shaped

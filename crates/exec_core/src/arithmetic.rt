@@ -7,11 +7,13 @@ guest_space::specs::Pending::first_write_fault, guest_space::specs::Pending::aft
 ghost use Rattle.std.specs.Prelude.{◌≡◌, IsTrue};
 ghost use Rattle.cpu_alu.specs.Sums.{sub_of};
 ghost use Rattle.cpu_values.specs.Word.{IsWidth, cut};
-ghost use Rattle.exec_core.specs.Arithmetic.{binary, compare, unary};
+ghost use Rattle.exec_core.specs.{Arithmetic.{binary, compare, unary}, Shaped.{with_result}};
+ghost use Rattle.guest_space.specs.Registers.{with_registers};
 ghost use Rattle.insn_forms.specs.Kinds.{is_width};
-ghost use Rattle.insn_plan.specs.Looks.{CarriesOutBy};
+ghost use Rattle.insn_plan.specs.{Looks.{CarriesOutBy}, Registers.{register}};
 
 use crate::operations::{Binary, BinaryAt, Unary, UnaryAt};
+use crate::shaped::RegisterRow;
 use client_world::Flags;
 use cpu_alu::sub;
 use cpu_values::cut;
@@ -63,9 +65,10 @@ macro_rules! at_register {
 pub(crate) use at_register;
 
 // Replaces the first operand by a result, and sets the flags. `$a` names its old value in `$result`, which gives result and flags; `$b`
-// names the second operand's, of its own width, where the operation has one.
+// names the second operand's, of its own width, where the operation has one. `$change` does it on the register `$n` of the width `$own`.
 macro_rules! change_first {
-    ($look:ident, $width:ident, $m:ident, $i:ident, $a:ident $(, $b:ident: $second_width:expr)? => $result:expr) => {
+    ($look:ident, $width:ident, $m:ident, $i:ident, $a:ident $(, $b:ident: $second_width:expr)? => $result:expr,
+    $own:ident, $n:ident => $change:expr) => {
         match &$i.first {
             Operand::Mem(form) => {
                 $(let ahead = $look::ahead($m, $i.addr32, $second_width, &$i.second)?;)?
@@ -78,14 +81,9 @@ macro_rules! change_first {
                 Ok(())
             }
             Operand::Reg { width, number } => {
-                let (own, number) = (register_width::<$look>($width, *width)?, *number);
+                let ($own, number) = (register_width::<$look>($width, *width)?, *number);
                 $(let $b = $look::source($m, $i.addr32, $second_width, &$i.second)?;)?
-                at_register!(number, n => {
-                    let $a = register($m.registers(), own, n);
-                    let (v, flags) = $result;
-                    $m.set_flags(flags);
-                    put_register($m, own, n, v);
-                });
+                at_register!(number, $n => $change);
                 Ok(())
             }
             first => {
@@ -130,6 +128,19 @@ fn result_of<const W: u8, O: BinaryAt<W>>(m: &Machine, a: u32, b: u32) -> (u32, 
     (v.get(), flags)
 }
 
+// A register of a width becomes the result of an operation of W bits.
+#[inline(always)]
+fn change<const W: u8, O: BinaryAt<W>>(m: &mut Machine, own: u8, n: u8, b: u32)
+    requires { IsWidth W }
+    ensures { let r = m.old.world.regs in
+        m.new ≡ with_result own n (O.formula W (cut W (register r own n)) (cut W b) r.flags) m.old }
+{
+    let a = register(m.registers(), own, n);
+    let (v, flags) = result_of::<W, O>(m, a, b);
+    m.set_flags(flags);
+    put_register(m, own, n, v);
+}
+
 // The row of an operation of two numbers of W bits.
 #[inline(always)]
 fn binary_at<const W: u8, L: Look, O: BinaryAt<W>>(
@@ -140,7 +151,7 @@ fn binary_at<const W: u8, L: Look, O: BinaryAt<W>>(
     requires same { i.now.width ≡ W }
     ensures { CarriesOutBy L.reported m.old m.new result (binary O.formula m.old.world i.now) }
 {
-    change_first!(L, W, m, i, a, b: W => result_of::<W, O>(m, a, b))
+    change_first!(L, W, m, i, a, b: W => result_of::<W, O>(m, a, b), own, n => change::<W, O>(m, own, n, b))
 }
 
 /// ADD, OR, ADC, SBB, AND, SUB, XOR. Source: 80386 Programmer's Reference Manual, ch. 17.
@@ -156,6 +167,24 @@ impl<O: Binary> InsnRow for Arithmetic<O> {
     }
 }
 
+impl<const W: u8, O: Binary + BinaryAt<W>> RegisterRow<W> for Arithmetic<O> {
+    #[inline(always)]
+    fn on_register(self, m: &mut Machine, i: &Insn, n: u8, b: u32) {
+        change::<W, O>(m, W, n, b);
+    }
+}
+
+// The flags of an operation of two numbers of W bits.
+#[inline(always)]
+fn set_flags_of<const W: u8, O: BinaryAt<W>>(m: &mut Machine, a: u32, b: u32)
+    requires { IsWidth W }
+    ensures { let r = m.old.world.regs in
+        m.new ≡ with_registers (record r { flags = (O.formula W (cut W a) (cut W b) r.flags).1 }) m.old }
+{
+    let (_, flags) = result_of::<W, O>(m, a, b);
+    m.set_flags(flags);
+}
+
 // The row of a comparison of two numbers of W bits.
 #[inline(always)]
 fn compare_at<const W: u8, L: Look, O: BinaryAt<W>>(
@@ -168,8 +197,7 @@ fn compare_at<const W: u8, L: Look, O: BinaryAt<W>>(
 {
     let a = L::source(m, i.addr32, W, &i.first)?;
     let b = L::source(m, i.addr32, W, &i.second)?;
-    let (_, flags) = result_of::<W, O>(m, a, b);
-    m.set_flags(flags);
+    set_flags_of::<W, O>(m, a, b);
     Ok(())
 }
 
@@ -183,6 +211,14 @@ impl<O: Binary> InsnRow for Comparison<O> {
     #[inline(always)]
     fn carry_out<L: Look>(self, m: &mut Machine, i: &Insn) -> Result<(), L::Missed> {
         at_width!(i.width, compare_at, L, O, m, i)
+    }
+}
+
+impl<const W: u8, O: Binary + BinaryAt<W>> RegisterRow<W> for Comparison<O> {
+    #[inline(always)]
+    fn on_register(self, m: &mut Machine, i: &Insn, n: u8, b: u32) {
+        let a = register(m.registers(), W, n);
+        set_flags_of::<W, O>(m, a, b);
     }
 }
 
@@ -209,6 +245,19 @@ fn result_of_one<const W: u8, O: UnaryAt<W>>(m: &Machine, a: u32) -> (u32, Flags
     (v.get(), flags)
 }
 
+// A register of a width becomes the result of an operation of W bits.
+#[inline(always)]
+fn change_one<const W: u8, O: UnaryAt<W>>(m: &mut Machine, own: u8, n: u8)
+    requires { IsWidth W }
+    ensures { let r = m.old.world.regs in
+        m.new ≡ with_result own n (O.formula W (cut W (register r own n)) r.flags) m.old }
+{
+    let a = register(m.registers(), own, n);
+    let (v, flags) = result_of_one::<W, O>(m, a);
+    m.set_flags(flags);
+    put_register(m, own, n, v);
+}
+
 // The row of an operation of one number of W bits.
 #[inline(always)]
 fn unary_at<const W: u8, L: Look, O: UnaryAt<W>>(m: &mut Machine, i: &Insn) -> Result<(), L::Missed>
@@ -216,7 +265,7 @@ fn unary_at<const W: u8, L: Look, O: UnaryAt<W>>(m: &mut Machine, i: &Insn) -> R
     requires same { i.now.width ≡ W }
     ensures { CarriesOutBy L.reported m.old m.new result (unary O.formula m.old.world i.now) }
 {
-    change_first!(L, W, m, i, a => result_of_one::<W, O>(m, a))
+    change_first!(L, W, m, i, a => result_of_one::<W, O>(m, a), own, n => change_one::<W, O>(m, own, n))
 }
 
 /// INC, DEC, NEG, NOT. Source: 80386 Programmer's Reference Manual, ch. 17.
@@ -229,5 +278,12 @@ impl<O: Unary> InsnRow for OneOperand<O> {
     #[inline(always)]
     fn carry_out<L: Look>(self, m: &mut Machine, i: &Insn) -> Result<(), L::Missed> {
         at_width!(i.width, unary_at, L, O, m, i)
+    }
+}
+
+impl<const W: u8, O: Unary + UnaryAt<W>> RegisterRow<W> for OneOperand<O> {
+    #[inline(always)]
+    fn on_register(self, m: &mut Machine, i: &Insn, n: u8, b: u32) {
+        change_one::<W, O>(m, W, n);
     }
 }

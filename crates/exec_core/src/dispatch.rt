@@ -1,7 +1,7 @@
 // The operations of this crate, and what each of them does.
 ghost use Rattle.std.specs.Prelude.{◌≡◌, IfNone, IfSome, IsTrue, false, not, true};
 ghost use Rattle.exec_core.specs.Dispatch.{is_core, core_row, IsCore};
-ghost use Rattle.insn_forms.specs.Kinds.{is_segment, is_width, has_good_number, operand_kind};
+ghost use Rattle.insn_forms.specs.{Kinds.{is_segment, is_width, has_good_number, operand_kind}, Shapes.{HasShape}};
 ghost use Rattle.insn_plan.specs.Plan.{CarriesOut};
 
 use crate::arithmetic::{Arithmetic, Comparison, OneOperand};
@@ -19,6 +19,7 @@ use crate::operations::{
     SubtractWithBorrow,
 };
 use crate::products::{Signed, Unsigned, divide, multiply, multiply_signed};
+use crate::shaped::{run_one, run_two};
 use crate::shift_operations::{
     RotateLeft, RotateLeftThroughCarry, RotateRight, RotateRightThroughCarry, ShiftArithmeticRight,
     ShiftLeft, ShiftRight,
@@ -52,35 +53,42 @@ pub fn is_core(i: &Insn) -> bool
 }
 
 /// Carries out an instruction of this crate, of `len` bytes, whose EIP is already after it. An event, in one word, leaves the machine as it
-/// was. `None`: the instruction isn't one of this crate, and nothing is done.
+/// was. `None`: the instruction isn't one of this crate, and nothing is done. Its shape leads to its registers.
 /// Source: 80386 Programmer's Reference Manual, ch. 17; that an instruction that faults changes nothing is own.
 #[inline(always)]
 #[tactic(auto, unfolding(crate::specs::Dispatch::is_core, crate::specs::Dispatch::core_row))]
-pub fn carry_out_core(m: &mut Machine, insn: &Insn, len: u8) -> Option<Result<(), Raised>>
+pub fn carry_out_core(
+    m: &mut Machine,
+    insn: &Insn,
+    len: u8,
+    shape: u8,
+) -> Option<Result<(), Raised>>
     requires width { IsTrue (is_width insn.now.width) }
     requires number { IsTrue (has_good_number insn.now.op) }
+    requires shape { HasShape shape insn.now }
     ensures done { IfSome result (λ r. CarriesOut m.old m.new r (core_row insn.now.op m.old.world insn.now len)) }
     ensures core { IfSome result (λ r. is_core insn.now.op insn.now.first insn.now.second ≡ true) }
     ensures other { IfNone result (is_core insn.now.op insn.now.first insn.now.second ≡ false) }
     ensures kept { IfNone result (m.new ≡ m.old) }
 {
+    let shape = usize::from(shape);
     match insn.op {
-        Op::Mov if is_no_segment(&insn.first) && is_no_segment(&insn.second) => Some(run_row(
-            Mov, m, insn,
+        Op::Mov if is_no_segment(&insn.first) && is_no_segment(&insn.second) => Some(run_two(
+            Mov, m, insn, shape,
         )),
-        Op::Add => Some(run_row(Arithmetic(Add), m, insn)),
-        Op::Or => Some(run_row(Arithmetic(Or), m, insn)),
-        Op::Adc => Some(run_row(Arithmetic(AddWithCarry), m, insn)),
-        Op::Sbb => Some(run_row(Arithmetic(SubtractWithBorrow), m, insn)),
-        Op::And => Some(run_row(Arithmetic(And), m, insn)),
-        Op::Sub => Some(run_row(Arithmetic(Subtract), m, insn)),
-        Op::Xor => Some(run_row(Arithmetic(ExclusiveOr), m, insn)),
-        Op::Cmp => Some(run_row(Comparison(Subtract), m, insn)),
-        Op::Test => Some(run_row(Comparison(And), m, insn)),
-        Op::Inc => Some(run_row(OneOperand(Increment), m, insn)),
-        Op::Dec => Some(run_row(OneOperand(Decrement), m, insn)),
-        Op::Not => Some(run_row(OneOperand(Complement), m, insn)),
-        Op::Neg => Some(run_row(OneOperand(Negate), m, insn)),
+        Op::Add => Some(run_two(Arithmetic(Add), m, insn, shape)),
+        Op::Or => Some(run_two(Arithmetic(Or), m, insn, shape)),
+        Op::Adc => Some(run_two(Arithmetic(AddWithCarry), m, insn, shape)),
+        Op::Sbb => Some(run_two(Arithmetic(SubtractWithBorrow), m, insn, shape)),
+        Op::And => Some(run_two(Arithmetic(And), m, insn, shape)),
+        Op::Sub => Some(run_two(Arithmetic(Subtract), m, insn, shape)),
+        Op::Xor => Some(run_two(Arithmetic(ExclusiveOr), m, insn, shape)),
+        Op::Cmp => Some(run_two(Comparison(Subtract), m, insn, shape)),
+        Op::Test => Some(run_two(Comparison(And), m, insn, shape)),
+        Op::Inc => Some(run_one(OneOperand(Increment), m, insn, shape)),
+        Op::Dec => Some(run_one(OneOperand(Decrement), m, insn, shape)),
+        Op::Not => Some(run_one(OneOperand(Complement), m, insn, shape)),
+        Op::Neg => Some(run_one(OneOperand(Negate), m, insn, shape)),
         Op::Mul => Some(multiply::<Unsigned>(m, insn)),
         Op::Imul => Some(multiply_signed(m, insn)),
         Op::Div => Some(divide::<Unsigned>(m, insn)),
@@ -91,13 +99,13 @@ pub fn carry_out_core(m: &mut Machine, insn: &Insn, len: u8) -> Option<Result<()
         Op::Aas => Some(adjust_after_subtraction(m)),
         Op::Aam => Some(adjust_after_product(m, insn)),
         Op::Aad => Some(adjust_before_division(m, insn)),
-        Op::Rol => Some(run_row(Shifting(RotateLeft), m, insn)),
-        Op::Ror => Some(run_row(Shifting(RotateRight), m, insn)),
-        Op::Rcl => Some(run_row(Shifting(RotateLeftThroughCarry), m, insn)),
-        Op::Rcr => Some(run_row(Shifting(RotateRightThroughCarry), m, insn)),
-        Op::Shl => Some(run_row(Shifting(ShiftLeft), m, insn)),
-        Op::Shr => Some(run_row(Shifting(ShiftRight), m, insn)),
-        Op::Sar => Some(run_row(Shifting(ShiftArithmeticRight), m, insn)),
+        Op::Rol => Some(run_two(Shifting(RotateLeft), m, insn, shape)),
+        Op::Ror => Some(run_two(Shifting(RotateRight), m, insn, shape)),
+        Op::Rcl => Some(run_two(Shifting(RotateLeftThroughCarry), m, insn, shape)),
+        Op::Rcr => Some(run_two(Shifting(RotateRightThroughCarry), m, insn, shape)),
+        Op::Shl => Some(run_two(Shifting(ShiftLeft), m, insn, shape)),
+        Op::Shr => Some(run_two(Shifting(ShiftRight), m, insn, shape)),
+        Op::Sar => Some(run_two(Shifting(ShiftArithmeticRight), m, insn, shape)),
         Op::Shld => Some(shift_in::<ShiftLeftDouble>(m, insn)),
         Op::Shrd => Some(shift_in::<ShiftRightDouble>(m, insn)),
         Op::Bt => Some(bit_test(m, insn)),
@@ -110,7 +118,7 @@ pub fn carry_out_core(m: &mut Machine, insn: &Insn, len: u8) -> Option<Result<()
         Op::Movzx(from) => Some(movzx(m, insn, from)),
         Op::Movsx(from) => Some(movsx(m, insn, from)),
         Op::Xchg => Some(xchg(m, insn)),
-        Op::Lea => Some(lea(m, insn)),
+        Op::Lea => Some(lea(m, insn, shape)),
         Op::Xlat => Some(xlat(m, insn)),
         Op::Cbw => Some(cbw(m, insn)),
         Op::Cwd => Some(cwd(m, insn)),
@@ -145,7 +153,7 @@ pub fn run_core(m: &mut Machine, insn: &Insn, len: u8) -> Result<(), Event>
     requires number { IsTrue (has_good_number insn.now.op) }
     ensures { CarriesOut m.old m.new result (core_row insn.now.op m.old.world insn.now len) }
 {
-    match carry_out_core(m, insn, len) {
+    match carry_out_core(m, insn, len, insn.shape()) {
         Some(Ok(())) => Ok(()),
         Some(Err(raised)) => Err(raised.event()),
         None => unreachable!(),

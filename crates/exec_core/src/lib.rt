@@ -14,6 +14,7 @@ mod flag_rows;
 mod moves;
 mod operations;
 mod products;
+mod shaped;
 mod shift_operations;
 mod shifts;
 mod stacks;

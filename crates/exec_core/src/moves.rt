@@ -4,13 +4,14 @@ crate::specs::Moves::movsx, crate::specs::Moves::xchg, crate::specs::Moves::lea,
 insn_plan::specs::Plan::after_plan, insn_plan::specs::Plan::after_commit, guest_space::specs::Pending::first_write_fault, //
 guest_space::specs::Pending::after_writes))]
 
-ghost use Rattle.std.specs.Prelude.{◌≡◌, ◌<◌, ◌^◌, IsTrue};
+ghost use Rattle.std.specs.Prelude.{◌≡◌, ◌<◌, ◌^◌, IsTrue, Ok};
 ghost use Rattle.cpu_values.specs.Word.{cut};
 ghost use Rattle.exec_core.specs.Moves.{mov, movzx, movsx, xchg, lea, xlat, cbw, cwd, sign_extended, sign_bits, half_width, operand_offset};
-ghost use Rattle.insn_forms.specs.Kinds.{is_width};
+ghost use Rattle.insn_forms.specs.{Kinds.{is_width}, Shapes.{HasShape, shape_width}};
 ghost use Rattle.insn_plan.specs.{Looks.{CarriesOutBy}, Plan.{CarriesOut}};
 
 use crate::arithmetic::at_known_width;
+use crate::shaped::{RegisterRow, at_shape};
 use client_world::general::{EAX, EDX};
 use guest_space::Machine;
 use insn_forms::{Insn, Operand};
@@ -64,6 +65,13 @@ impl InsnRow for Mov {
     #[inline(always)]
     fn carry_out<L: Look>(self, m: &mut Machine, i: &Insn) -> Result<(), L::Missed> {
         at_known_width!(mov_at, L, m, i)
+    }
+}
+
+impl<const W: u8> RegisterRow<W> for Mov {
+    #[inline(always)]
+    fn on_register(self, m: &mut Machine, i: &Insn, n: u8, b: u32) {
+        put_register(m, W, n, b);
     }
 }
 
@@ -129,14 +137,34 @@ fn operand_offset(m: &Machine, i: &Insn, operand: &Operand) -> u32
     }
 }
 
-/// LEA. Source: 80386 Programmer's Reference Manual, ch. 17.
+// Puts an offset into the register of a shape, `known` as a constant, whose registers have that width.
+#[inline(always)]
+fn put_offset(m: &mut Machine, i: &Insn, shape: usize, known: u8, width: u8, off: u32)
+    requires shape { HasShape shape i.now }
+    requires known { known ≡ shape }
+    requires some { known < 96 }
+    requires wide { shape_width known ≡ width }
+    requires width { IsTrue (is_width width) }
+    requires off { off ≡ operand_offset m.old.world i.now i.now.second }
+    ensures { CarriesOut m.old m.new (Ok tt) (lea m.old.world i.now) }
+{
+    put_register(m, width, known % 8, cut(width, off));
+}
+
+/// LEA. Its shape leads to its register. Source: 80386 Programmer's Reference Manual, ch. 17.
 #[inline(never)]
-pub(crate) fn lea(m: &mut Machine, i: &Insn) -> Result<(), Raised>
-    requires { IsTrue (is_width i.now.width) }
+pub(crate) fn lea(m: &mut Machine, i: &Insn, shape: usize) -> Result<(), Raised>
+    requires width { IsTrue (is_width i.now.width) }
+    requires shape { HasShape shape i.now }
     ensures { CarriesOut m.old m.new result (lea m.old.world i.now) }
 {
-    let v = cut(i.width, operand_offset(m, i, &i.second));
-    put_operand(m, i.addr32, i.width, &i.first, v)
+    let off = operand_offset(m, i, &i.second);
+    at_shape!(
+        shape, known,
+        80 81 82 83 84 85 86 87 => put_offset(m, i, shape, known, 16, off),
+        88 89 90 91 92 93 94 95 => put_offset(m, i, shape, known, 32, off),
+        _ => put_operand(m, i.addr32, i.width, &i.first, cut(i.width, off))
+    )
 }
 
 /// XLAT. Source: 80386 Programmer's Reference Manual, ch. 17.

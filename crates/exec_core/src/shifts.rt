@@ -2,11 +2,12 @@
 ghost use Rattle.std.specs.Prelude.{◌≡◌, IsTrue};
 ghost use Rattle.cpu_alu.specs.DoubleShifts.{shld_of, shrd_of};
 ghost use Rattle.cpu_values.specs.Word.{IsWidth, cut};
-ghost use Rattle.exec_core.specs.Shifts.{DoubleFormula, shift, shift_in};
+ghost use Rattle.exec_core.specs.{Shaped.{with_result}, Shifts.{DoubleFormula, shift, shift_in}};
 ghost use Rattle.insn_forms.specs.Kinds.{is_width};
-ghost use Rattle.insn_plan.specs.{Looks.{CarriesOutBy}, Plan.{CarriesOut}};
+ghost use Rattle.insn_plan.specs.{Looks.{CarriesOutBy}, Plan.{CarriesOut}, Registers.{register}};
 
 use crate::arithmetic::{at_register, at_width, change_first, flags_of};
+use crate::shaped::RegisterRow;
 use crate::shift_operations::{Shift, ShiftAt};
 use client_world::Flags;
 use cpu_alu::{shld, shrd};
@@ -18,14 +19,27 @@ use insn_plan::{
     source_after,
 };
 
-// The result and the flags of a shift.
+// The result and the flags of a shift by a count, of which the low byte counts.
 #[inline(always)]
-fn shifted<const W: u8, O: ShiftAt<W>>(m: &Machine, a: u32, n: u8) -> (u32, Flags)
+fn shifted<const W: u8, O: ShiftAt<W>>(m: &Machine, a: u32, count: u32) -> (u32, Flags)
     requires { IsWidth W }
-    ensures { result ≡ O.formula W (cut W a) n m.now.world.regs.flags }
+    ensures { result ≡ O.formula W (cut W a) (cut 8 count) m.now.world.regs.flags }
 {
-    let (v, flags) = O::apply(cut::<W>(u64::from(a)), n, flags_of(m));
+    let (v, flags) = O::apply(cut::<W>(u64::from(a)), (count % 0x100) as u8, flags_of(m));
     (v.get(), flags)
+}
+
+// A register of a width becomes itself moved, by a shift of W bits.
+#[inline(always)]
+fn shift_register<const W: u8, O: ShiftAt<W>>(m: &mut Machine, own: u8, n: u8, count: u32)
+    requires { IsWidth W }
+    ensures { let r = m.old.world.regs in
+        m.new ≡ with_result own n (O.formula W (cut W (register r own n)) (cut 8 count) r.flags) m.old }
+{
+    let a = register(m.registers(), own, n);
+    let (v, flags) = shifted::<W, O>(m, a, count);
+    m.set_flags(flags);
+    put_register(m, own, n, v);
 }
 
 // The row of a shift of W bits.
@@ -38,7 +52,7 @@ fn shift_at<const W: u8, L: Look, O: ShiftAt<W>>(m: &mut Machine, i: &Insn) -> R
     requires same { i.now.width ≡ W }
     ensures { CarriesOutBy L.reported m.old m.new result (shift O.formula m.old.world i.now) }
 {
-    change_first!(L, W, m, i, a, count: 8 => shifted::<W, O>(m, a, (count % 0x100) as u8))
+    change_first!(L, W, m, i, a, count: 8 => shifted::<W, O>(m, a, count), own, n => shift_register::<W, O>(m, own, n, count))
 }
 
 /// SHL, SHR, SAR, ROL, ROR, RCL, RCR. Source: 80386 Programmer's Reference Manual, ch. 17.
@@ -51,6 +65,13 @@ impl<O: Shift> InsnRow for Shifting<O> {
     #[inline(always)]
     fn carry_out<L: Look>(self, m: &mut Machine, i: &Insn) -> Result<(), L::Missed> {
         at_width!(i.width, shift_at, L, O, m, i)
+    }
+}
+
+impl<const W: u8, O: Shift + ShiftAt<W>> RegisterRow<W> for Shifting<O> {
+    #[inline(always)]
+    fn on_register(self, m: &mut Machine, i: &Insn, n: u8, b: u32) {
+        shift_register::<W, O>(m, W, n, b);
     }
 }
 

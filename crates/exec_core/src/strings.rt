@@ -11,7 +11,7 @@ ghost use Rattle.insn_forms.specs.Kinds.{is_width};
 ghost use Rattle.guest_space.specs.Registers.{with_registers};
 ghost use Rattle.insn_plan.specs.{Looks.{CarriesOutBy}, Registers.{cut_address}};
 
-use crate::arithmetic::difference_flags;
+use crate::arithmetic::{difference_flags, flags_of};
 use client_world::general::{EAX, ECX, EDI, ESI};
 use client_world::{Flags, SegReg};
 use guest_space::{Machine, byte_count};
@@ -219,7 +219,7 @@ fn cmps_at<L: Look>(
     let second = destination_offset(m, addr32);
     let b = L::read(m, SegReg::Es, second, width)?;
     move_both(m, i, width, addr32);
-    let flags = difference_flags(width, a, b, m.registers().flags);
+    let flags = difference_flags(width, a, b, flags_of(m));
     m.set_flags(flags);
     count_element(m, i, addr32, len, goes_on_while(i.rep, flags));
     Ok(())
@@ -342,7 +342,7 @@ fn scas_at<L: Look>(
     let b = L::read(m, SegReg::Es, from, width)?;
     let a = register(m.registers(), width, EAX);
     move_destination(m, i, width, addr32);
-    let flags = difference_flags(width, a, b, m.registers().flags);
+    let flags = difference_flags(width, a, b, flags_of(m));
     m.set_flags(flags);
     count_element(m, i, addr32, len, goes_on_while(i.rep, flags));
     Ok(())

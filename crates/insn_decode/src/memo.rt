@@ -3,7 +3,7 @@ ghost use Rattle.std.specs.Prelude.{◌≡◌, ◌<◌, ◌*◌, ◌^◌, ◌%�
 ghost use Rattle.client_world.specs.{CodeWords.{code_bytes}, declared.code.CodeWords.{CodeWords as Words}};
 ghost use Rattle.insn_decode.specs.{Decode.{decoded}, declared.decoding.Decoded.TheVariants.{Whole}, declared.memo.TheConstants.{PLACES}};
 ghost use Rattle.insn_decode.specs.declared.memo.TheConstants.{WORD_BYTES};
-ghost use Rattle.insn_forms.specs.Kinds.{IsWellFormed};
+ghost use Rattle.insn_forms.specs.{Kinds.{IsWellFormed}, Shapes.{HasShape}};
 
 use crate::decoding::{Decoded, decode};
 use arrayvec::ArrayVec;
@@ -57,7 +57,7 @@ impl Start {
     }
 }
 
-/// An instruction and the number of its bytes, beside what it was decoded from: 15 code bytes, and whether operands and addresses have
+/// An instruction, its length and its shape, beside what it was decoded from: 15 code bytes, and whether operands and addresses have
 /// 32 bits by default. One of at most 8 bytes is found by the low word of the code alone, a longer one by all 15 bytes.
 #[derive(Clone, Copy)]
 pub struct Entry {
@@ -66,9 +66,11 @@ pub struct Entry {
     start: Start,
     pub insn: Insn,
     pub len: u8,
+    pub shape: u8,
     ghost short: { (w : Words) → w.low * start.scale % 2 ^ 64 ≡ start.scaled → decoded big (code_bytes w) ≡ Whole insn len },
     ghost long: { WORD_BYTES < len → decoded big (code_bytes words) ≡ Whole insn len },
     ghost well_formed: { IsWellFormed insn },
+    ghost shaped: { HasShape shape insn },
 }
 
 /// A memo of decoded instructions. Each entry is what `decode` returns for the bytes that are beside it, so that none is ever out of
@@ -97,6 +99,7 @@ impl Entry {
             third: Operand::Empty,
         },
         len: 0,
+        shape: Insn::NO_SHAPE,
     };
 
     // The entry of these bytes, where they begin with an instruction.
@@ -113,6 +116,7 @@ impl Entry {
                     start: Start::new(words.low, len),
                     insn,
                     len,
+                    shape: insn.shape(),
                 })
             }
             Decoded::More | Decoded::Invalid => None,
@@ -151,6 +155,7 @@ impl Memo {
         ensures decoded { IfSome result (λ e. (w : Words) → w.low ≡ low →
             decoded big (code_bytes w) ≡ Whole e.now.insn e.now.len) }
         ensures well_formed { IfSome result (λ e. IsWellFormed e.now.insn) }
+        ensures shaped { IfSome result (λ e. HasShape e.now.shape e.now.insn) }
     {
         let entry = &self.entries[key as usize % PLACES];
         if entry.matches(low, big) {
@@ -167,6 +172,7 @@ impl Memo {
     pub fn learn(&mut self, key: u32, words: CodeWords, big: bool) -> Option<&Entry>
         ensures decoded { IfSome result (λ e. decoded big (code_bytes words) ≡ Whole e.now.insn e.now.len) }
         ensures well_formed { IfSome result (λ e. IsWellFormed e.now.insn) }
+        ensures shaped { IfSome result (λ e. HasShape e.now.shape e.now.insn) }
     {
         let entry = &mut self.entries[key as usize % PLACES];
         if !entry.matches_long(words, big) {

@@ -5,3 +5,4 @@ pub mod Addressing
 pub mod Operands
 pub mod Grammar
 pub mod Kinds
+pub mod Shapes

@@ -10,6 +10,7 @@ mod laws;
 mod maps;
 mod pieces;
 mod rows;
+mod shapes;
 mod table;
 
 pub use insn::{Insn, MemForm, Op, Operand, Owner, Rep, Traits};

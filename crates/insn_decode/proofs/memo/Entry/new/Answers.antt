@@ -23,4 +23,5 @@ invariant_of-result c =
           (c.new.ensures words w refl same) read;
       long = λ _. read;
       well_formed = c.every_instruction_is_well_formed.ensures insn (big, _, encoded);
+      shaped = c.shape.ensures;
     }
