@@ -1,6 +1,6 @@
 // The client's next instruction.
 ghost use Rattle.std.specs.Prelude.{◌≡◌, ◌+◌, ◌<◌, OnOk};
-ghost use Rattle.guest_space.specs.Windows.{IsWindow};
+ghost use Rattle.guest_space.specs.{Registers.{with_registers}, Windows.{IsWindow}};
 ghost use Rattle.insn_forms.specs.{Kinds.{IsWellFormed}, Shapes.{HasShape}};
 ghost use Rattle.insn_plan.specs.Plan.{CarriesOut, Follows};
 ghost use Rattle.cpu_step.specs.Step.{view_with_next_eip, client_row, client_step, after_instruction, has_big_code, incomplete_fault};
@@ -48,6 +48,17 @@ fn run(m: &mut Machine, insn: &Insn, len: u8, shape: u8) -> Result<(), Raised>
     }
 }
 
+// Puts the instruction pointer back for an event. Out of line, it leaves the way without one to ask for the answer once.
+#[cold]
+#[inline(never)]
+fn put_back(m: &mut Machine, start: u32, raised: Raised) -> Raised
+    ensures machine { m.new ≡ with_registers (record m.old.world.regs { eip = start }) m.old }
+    ensures event { result ≡ raised }
+{
+    m.set_eip(start);
+    raised
+}
+
 // Executes an instruction of `len` bytes and a shape; an event leaves the machine as it was, EIP too.
 #[inline(always)]
 #[tactic(auto, unfolding(crate::specs::Step::after_instruction))]
@@ -60,10 +71,7 @@ fn execute(m: &mut Machine, insn: &Insn, len: u8, shape: u8) -> Result<(), Raise
     move_past(m, len);
     match run(m, insn, len, shape) {
         Ok(()) => Ok(()),
-        Err(raised) => {
-            m.set_eip(start);
-            Err(raised)
-        }
+        Err(raised) => Err(put_back(m, start, raised)),
     }
 }
 
