@@ -18,16 +18,16 @@ use guest_space::{Machine, byte_count};
 use insn_forms::{Insn, Rep};
 use insn_plan::{InsnRow, Look, cut_address, put_register, register, with_address};
 
-// A row at the element's width and the address size of its instruction, both of which the compiler then knows.
+// A row for elements of W bits, with addresses of 32 bits where A is true: both are then constants for the compiler.
 macro_rules! at_size {
     ($row:ident, $look:ident, $m:ident, $i:ident, $len:expr) => {
         match ($i.width, $i.addr32) {
-            (8, false) => $row::<$look>($m, $i, $len, 8, false),
-            (8, true) => $row::<$look>($m, $i, $len, 8, true),
-            (16, false) => $row::<$look>($m, $i, $len, 16, false),
-            (16, true) => $row::<$look>($m, $i, $len, 16, true),
-            (_, false) => $row::<$look>($m, $i, $len, 32, false),
-            (_, true) => $row::<$look>($m, $i, $len, 32, true),
+            (8, false) => $row::<8, false, $look>($m, $i, $len),
+            (8, true) => $row::<8, true, $look>($m, $i, $len),
+            (16, false) => $row::<16, false, $look>($m, $i, $len),
+            (16, true) => $row::<16, true, $look>($m, $i, $len),
+            (_, false) => $row::<32, false, $look>($m, $i, $len),
+            (_, true) => $row::<32, true, $look>($m, $i, $len),
         }
     };
 }
@@ -158,26 +158,24 @@ fn goes_on_while(rep: Rep, f: Flags) -> bool
 
 // The row of MOVS at a width and an address size.
 #[inline(always)]
-fn movs_at<L: Look>(
+fn movs_at<const W: u8, const A: bool, L: Look>(
     m: &mut Machine,
     i: &Insn,
     len: u8,
-    width: u8,
-    addr32: bool,
 ) -> Result<(), L::Missed>
-    requires width { width ≡ i.now.width }
-    requires size { addr32 ≡ i.now.addr32 }
+    requires width { W ≡ i.now.width }
+    requires size { A ≡ i.now.addr32 }
     ensures { CarriesOutBy L.reported m.old m.new result (movs m.old.world i.now len) }
 {
-    if is_over(m, i, addr32) {
+    if is_over(m, i, A) {
         return Ok(());
     }
-    let from = source_offset(m, addr32);
-    let v = L::read(m, i.seg, from, width)?;
-    let to = destination_offset(m, addr32);
-    L::write(m, SegReg::Es, to, width, v)?;
-    move_both(m, i, width, addr32);
-    count_element(m, i, addr32, len, true);
+    let from = source_offset(m, A);
+    let v = L::read(m, i.seg, from, W)?;
+    let to = destination_offset(m, A);
+    L::write(m, SegReg::Es, to, W, v)?;
+    move_both(m, i, W, A);
+    count_element(m, i, A, len, true);
     Ok(())
 }
 
@@ -199,29 +197,27 @@ impl InsnRow for Movs {
 
 // The row of CMPS at a width and an address size.
 #[inline(always)]
-fn cmps_at<L: Look>(
+fn cmps_at<const W: u8, const A: bool, L: Look>(
     m: &mut Machine,
     i: &Insn,
     len: u8,
-    width: u8,
-    addr32: bool,
 ) -> Result<(), L::Missed>
     requires good { IsTrue (is_width i.now.width) }
-    requires width { width ≡ i.now.width }
-    requires size { addr32 ≡ i.now.addr32 }
+    requires width { W ≡ i.now.width }
+    requires size { A ≡ i.now.addr32 }
     ensures { CarriesOutBy L.reported m.old m.new result (cmps m.old.world i.now len) }
 {
-    if is_over(m, i, addr32) {
+    if is_over(m, i, A) {
         return Ok(());
     }
-    let first = source_offset(m, addr32);
-    let a = L::read(m, i.seg, first, width)?;
-    let second = destination_offset(m, addr32);
-    let b = L::read(m, SegReg::Es, second, width)?;
-    move_both(m, i, width, addr32);
-    let flags = difference_flags(width, a, b, flags_of(m));
+    let first = source_offset(m, A);
+    let a = L::read(m, i.seg, first, W)?;
+    let second = destination_offset(m, A);
+    let b = L::read(m, SegReg::Es, second, W)?;
+    move_both(m, i, W, A);
+    let flags = difference_flags(W, a, b, flags_of(m));
     m.set_flags(flags);
-    count_element(m, i, addr32, len, goes_on_while(i.rep, flags));
+    count_element(m, i, A, len, goes_on_while(i.rep, flags));
     Ok(())
 }
 
@@ -243,25 +239,23 @@ impl InsnRow for Cmps {
 
 // The row of STOS at a width and an address size.
 #[inline(always)]
-fn stos_at<L: Look>(
+fn stos_at<const W: u8, const A: bool, L: Look>(
     m: &mut Machine,
     i: &Insn,
     len: u8,
-    width: u8,
-    addr32: bool,
 ) -> Result<(), L::Missed>
-    requires width { width ≡ i.now.width }
-    requires size { addr32 ≡ i.now.addr32 }
+    requires width { W ≡ i.now.width }
+    requires size { A ≡ i.now.addr32 }
     ensures { CarriesOutBy L.reported m.old m.new result (stos m.old.world i.now len) }
 {
-    if is_over(m, i, addr32) {
+    if is_over(m, i, A) {
         return Ok(());
     }
-    let accumulator = register(m.registers(), width, EAX);
-    let to = destination_offset(m, addr32);
-    L::write(m, SegReg::Es, to, width, accumulator)?;
-    move_destination(m, i, width, addr32);
-    count_element(m, i, addr32, len, true);
+    let accumulator = register(m.registers(), W, EAX);
+    let to = destination_offset(m, A);
+    L::write(m, SegReg::Es, to, W, accumulator)?;
+    move_destination(m, i, W, A);
+    count_element(m, i, A, len, true);
     Ok(())
 }
 
@@ -283,25 +277,23 @@ impl InsnRow for Stos {
 
 // The row of LODS at a width and an address size.
 #[inline(always)]
-fn lods_at<L: Look>(
+fn lods_at<const W: u8, const A: bool, L: Look>(
     m: &mut Machine,
     i: &Insn,
     len: u8,
-    width: u8,
-    addr32: bool,
 ) -> Result<(), L::Missed>
-    requires width { width ≡ i.now.width }
-    requires size { addr32 ≡ i.now.addr32 }
+    requires width { W ≡ i.now.width }
+    requires size { A ≡ i.now.addr32 }
     ensures { CarriesOutBy L.reported m.old m.new result (lods m.old.world i.now len) }
 {
-    if is_over(m, i, addr32) {
+    if is_over(m, i, A) {
         return Ok(());
     }
-    let from = source_offset(m, addr32);
-    let v = L::read(m, i.seg, from, width)?;
-    put_register(m, width, EAX, v);
-    move_source(m, i, width, addr32);
-    count_element(m, i, addr32, len, true);
+    let from = source_offset(m, A);
+    let v = L::read(m, i.seg, from, W)?;
+    put_register(m, W, EAX, v);
+    move_source(m, i, W, A);
+    count_element(m, i, A, len, true);
     Ok(())
 }
 
@@ -323,28 +315,26 @@ impl InsnRow for Lods {
 
 // The row of SCAS at a width and an address size.
 #[inline(always)]
-fn scas_at<L: Look>(
+fn scas_at<const W: u8, const A: bool, L: Look>(
     m: &mut Machine,
     i: &Insn,
     len: u8,
-    width: u8,
-    addr32: bool,
 ) -> Result<(), L::Missed>
     requires good { IsTrue (is_width i.now.width) }
-    requires width { width ≡ i.now.width }
-    requires size { addr32 ≡ i.now.addr32 }
+    requires width { W ≡ i.now.width }
+    requires size { A ≡ i.now.addr32 }
     ensures { CarriesOutBy L.reported m.old m.new result (scas m.old.world i.now len) }
 {
-    if is_over(m, i, addr32) {
+    if is_over(m, i, A) {
         return Ok(());
     }
-    let from = destination_offset(m, addr32);
-    let b = L::read(m, SegReg::Es, from, width)?;
-    let a = register(m.registers(), width, EAX);
-    move_destination(m, i, width, addr32);
-    let flags = difference_flags(width, a, b, flags_of(m));
+    let from = destination_offset(m, A);
+    let b = L::read(m, SegReg::Es, from, W)?;
+    let a = register(m.registers(), W, EAX);
+    move_destination(m, i, W, A);
+    let flags = difference_flags(W, a, b, flags_of(m));
     m.set_flags(flags);
-    count_element(m, i, addr32, len, goes_on_while(i.rep, flags));
+    count_element(m, i, A, len, goes_on_while(i.rep, flags));
     Ok(())
 }
 
