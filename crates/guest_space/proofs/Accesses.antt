@@ -88,7 +88,7 @@ segment_part Real r rows seg offset n k m write base h e = real_part seg (select
 segment_part Protected r rows seg offset n k m write base h e = protected_part rows seg (selector r seg) offset n k m write base h e
 
 -- code doesn't expand down: one of its bytes is inside where all bytes before it are
-code_goes_up : (kind : Kind) → is_code kind ≡ true → expands_down kind ≡ false
+pub code_goes_up : (kind : Kind) → is_code kind ≡ true → expands_down kind ≡ false
 code_goes_up (Data writable down) e = absurd cc
 code_goes_up Code e = refl
 

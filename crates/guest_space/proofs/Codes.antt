@@ -15,7 +15,9 @@ use Rattle.client_world.specs.{declared.registers.Regs.{Regs}, Loading.{code_row
 use Rattle.client_world.specs.Selector.{is_null, row_of_selector}
 use Rattle.client_world.proofs.{PlaceLaws.{length-places_from, places_from-at}, SoundWrites.{at_bytes_of}}
 use Rattle.guest_space.specs.{Code.{one_byte, code_byte, code_from}, Transfer.{read_result, bytes_at, linear_access, fault_of}}
-use Rattle.guest_space.proofs.{Accesses.{loaded_linear, access_refused, code_base, segment_part}, Runs.{AllTouch, all_touch, access_ends}}
+use Rattle.guest_space.proofs.{Accesses.{loaded_linear, access_refused, code_base, code_goes_up, segment_part}, Runs.{AllTouch, all_touch, access_ends}}
+use Rattle.guest_space.specs.{declared.hidden_parts.Hidden.{Hidden}, HiddenParts.{found, is_data_with, part_in_row, part_of_selector}}
+use Rattle.guest_space.proofs.HiddenLaws.{down_bit, peel}
 use Rattle.guest_ram.specs.Bytes.{AreBytes, region}
 use Rattle.guest_ram.proofs.PutLaws.{length-region, at_region}
 
@@ -235,6 +237,22 @@ by_mode : (mode : Mode) (r : Regs) (rows : List Row) (offset base : ℕ) → seg
 unfolding segment_base load_fault
 by_mode Real r rows offset base e = grind (arith, in_real, is_base, same_test)
 by_mode Protected r rows offset base e = unless_null rows r.cs offset base (is_null r.cs) e
+
+-- what is in CS is code, or a segment of real mode: it doesn't expand down
+row_goes_up : (row : Row) (part : Hidden) → part_in_row Cs row ≡ Some part → is_data_with part.access 4 ≡ false
+row_goes_up None part e = absurd cc
+row_goes_up (Some row) part e = grind (arith, peel, down_bit, code_goes_up)
+
+code_part : (null : Bool) (row : Row) (part : Hidden) → (if null then None else part_in_row Cs row) ≡ Some part →
+    is_data_with part.access 4 ≡ false
+code_part true row part e = absurd cc
+code_part false row part e = row_goes_up row part e
+
+pub part_goes_up : (mode : Mode) (r : Regs) (rows : List Row) (part : Hidden) → found mode r rows Cs ≡ Some part →
+    is_data_with part.access 4 ≡ false
+unfolding part_of_selector
+part_goes_up Real r rows part e = grind arith
+part_goes_up Protected r rows part e = code_part (is_null r.cs) (row_of_selector rows r.cs) part e
 
 pub near_target : (w : World) (offset base : ℕ) → segment_base w.mode w.regs w.descriptors Cs offset 1 false ≡ Ok base →
     transfer_fault w w.regs.cs offset false ≡ None

@@ -34,7 +34,7 @@ writable_bit false (Data false true) = refl
 writable_bit false (Data false false) = refl
 writable_bit false Code = refl
 
-down_bit : (present : Bool) (kind : Kind) → is_data_with (cond present 0x80 0 + 0x60 + 0x10 + kind_bits kind + 1) 4 ≡ expands_down kind
+pub down_bit : (present : Bool) (kind : Kind) → is_data_with (cond present 0x80 0 + 0x60 + 0x10 + kind_bits kind + 1) 4 ≡ expands_down kind
 down_bit true (Data true true) = refl
 down_bit true (Data true false) = refl
 down_bit true (Data false true) = refl
@@ -67,7 +67,7 @@ abbrev or_else : Hidden → Option Hidden → Hidden
 or_else x None = x
 or_else x (Some part) = part
 
-peel : (a b : Bool) (x part : Hidden) → (if a then None else if b then None else Some x) ≡ Some part →
+pub peel : (a b : Bool) (x part : Hidden) → (if a then None else if b then None else Some x) ≡ Some part →
     (a ≡ false) × ((b ≡ false) × (x ≡ part))
 peel true b x part e = absurd (subst IsNothing e tt)
 peel false true x part e = absurd (subst IsNothing e tt)

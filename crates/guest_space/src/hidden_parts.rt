@@ -1,6 +1,7 @@
 // The hidden parts of the segment registers.
-ghost use Rattle.std.specs.Prelude.{◌≡◌, ◌<◌, ◌^◌, IsTrue, Ok};
+ghost use Rattle.std.specs.Prelude.{◌≡◌, ◌<◌, ◌^◌, IsTrue, Ok, false};
 ghost use Rattle.client_world.specs.{declared.registers.Mode.TheVariants.{Protected as protected}, declared.segments.SegReg.{SegReg}};
+ghost use Rattle.client_world.specs.declared.segments.SegReg.TheVariants.{Cs as cs};
 ghost use Rattle.client_world.specs.{Descriptor.{access_byte, is_within}, Segments.{selector}, Selector.{FitsRow}};
 ghost use Rattle.desc_table.specs.Rows.{HasRows, rows_from, rows_start};
 ghost use Rattle.guest_space.specs.HiddenParts.{all_found, base_within, is_data_with, number, part_in_row, part_of_selector};
@@ -52,6 +53,14 @@ impl Hidden {
         !is_data_with(self.access, EXPAND_DOWN)
             && (!write || is_data_with(self.access, WRITABLE))
             && u64::from(off) + u64::from(n.saturating_sub(1)) <= u64::from(self.limit)
+    }
+
+    // Whether a byte at an offset lies up to the limit, of a segment that doesn't expand down. It may be fetched then.
+    #[inline(always)]
+    pub(crate) fn has_code_at(&self, off: u32) -> bool
+        ensures { IsTrue result → is_data_with self.now.access 4 ≡ false → base_within self.now cs off 1 false ≡ Ok self.now.base }
+    {
+        off <= self.limit
     }
 
     // Whether n bytes at an offset lie inside the segment.

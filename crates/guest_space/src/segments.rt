@@ -150,6 +150,18 @@ impl Machine {
         }
     }
 
+    /// Whether the segment in a register has 32 bits, where its hidden part shows it; `None` says nothing. Source: own.
+    #[inline(always)]
+    pub fn quick_size(&self, seg: SegReg) -> Option<bool>
+        ensures { IfSome result (λ big.
+            big ≡ is_big self.now.world.mode self.now.world.descriptors (selector self.now.world.regs seg)) }
+    {
+        match self.part(seg) {
+            Some(part) => Some(part.size),
+            None => None,
+        }
+    }
+
     // The base in the row of a selector.
     #[inline(never)]
     fn base_of_row(&self, sel: u16) -> u32
@@ -180,8 +192,9 @@ impl Machine {
     pub fn is_near_target(&self, off: u32) -> bool
         ensures { IsTrue result → transfer_fault self.now.world self.now.world.regs.cs off false ≡ None }
     {
-        match self.quick_base(SegReg::Cs, off, 1, false) {
-            Some(_) => true,
+        match self.part(SegReg::Cs) {
+            // Code doesn't expand down.
+            Some(part) => part.has_code_at(off),
             None => false,
         }
     }

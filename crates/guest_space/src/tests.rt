@@ -61,10 +61,9 @@ fn compare(machine: &Machine) -> Result<(), &'static str> {
     };
     same("hidden parts", hidden == [Some(part); 6])?;
     let entry = CacheEntry {
-        used: false,
-        page: 0,
-        frame: 0,
-        writable: false,
+        page: 0x10_0000,
+        written: 0x10_0000,
+        start: 0,
     };
     same("cache", cache == [entry; CACHE_SIZE])
 }
