@@ -1,24 +1,15 @@
 // The conditions of Jcc and SETcc.
 ghost use Rattle.std.specs.Prelude.{◌≡◌};
-ghost use Rattle.insn_plan.specs.Conditions.{condition, even_condition};
+ghost use Rattle.insn_plan.specs.Conditions.{condition, is_less};
 
 use client_world::Flags;
 
-// The condition of an even number, by half the number.
+// SF differs from OF: of two signed numbers that were compared, the first is less.
 #[inline(always)]
-fn even_condition(half: u8, f: &Flags) -> bool
-    ensures { result ≡ even_condition half f.now }
+fn is_less(f: &Flags) -> bool
+    ensures { result ≡ is_less f.now }
 {
-    match half {
-        0 => f.of,
-        1 => f.cf,
-        2 => f.zf,
-        3 => f.cf || f.zf,
-        4 => f.sf,
-        5 => f.pf,
-        6 => f.sf != f.of,
-        _ => f.zf || f.sf != f.of,
-    }
+    f.sf != f.of
 }
 
 /// Whether a condition 0 to 15 holds. Source: 80386 Programmer's Reference Manual, appendix D.
@@ -26,9 +17,22 @@ fn even_condition(half: u8, f: &Flags) -> bool
 pub fn condition(n: u8, f: &Flags) -> bool
     ensures { result ≡ condition n f.now }
 {
-    if n % 2 == 0 {
-        even_condition(n / 2, f)
-    } else {
-        !even_condition(n / 2, f)
+    match n {
+        0 => f.of,
+        1 => !f.of,
+        2 => f.cf,
+        3 => !f.cf,
+        4 => f.zf,
+        5 => !f.zf,
+        6 => f.cf || f.zf,
+        7 => !(f.cf || f.zf),
+        8 => f.sf,
+        9 => !f.sf,
+        10 => f.pf,
+        11 => !f.pf,
+        12 => is_less(f),
+        13 => !is_less(f),
+        _ if n % 2 == 0 => f.zf || is_less(f),
+        _ => !(f.zf || is_less(f)),
     }
 }

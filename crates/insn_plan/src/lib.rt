@@ -28,7 +28,8 @@ pub use raised::Raised;
 pub use read::{number_at, read_number, read_width};
 pub use registers::{cut_address, offset_of, register, set_register, with_address};
 pub use stack::{
-    eight_items, esp_up, has_big_stack, item_pushed, look_at_top, popped_esp, push_item,
-    push_number, settle_pushes, settle_quickly, stack_item, stack_pointer, top_item,
+    eight_items, esp_up, has_big_stack, item_pushed, look_at_size, look_at_top, look_at_top_of,
+    popped_esp, push_item, push_number, settle_pushes, settle_quickly, stack_item, stack_pointer,
+    top_item,
 };
 pub use targets::check_transfer;

@@ -89,6 +89,9 @@ pub fn offset_of(r: &Regs, addr32: bool, f: &MemForm) -> u32
     ensures { result ≡ offset_of r.now addr32 f.now }
 {
     let base = u64::from(address_part(r, f.base));
-    let index = u64::from(address_part(r, f.index)) * u64::from(f.scale);
-    cut_address(addr32, base + index + u64::from(f.disp))
+    let near = base + u64::from(f.disp);
+    match f.index {
+        None => cut_address(addr32, near),
+        Some(n) => cut_address(addr32, near + u64::from(r.general(n)) * u64::from(f.scale)),
+    }
 }

@@ -1,5 +1,5 @@
 // The stack.
-ghost use Rattle.std.specs.Prelude.{◌≡◌, ◌+◌, ◌-◌, ◌<◌, ◌^◌, ◌⊎◌, IfSome, IsFalse, IsTrue, Ok, length, slice_index, ℕ};
+ghost use Rattle.std.specs.Prelude.{◌≡◌, ◌+◌, ◌-◌, ◌<◌, ◌^◌, ◌⊎◌, IfErr, IfOk, IfSome, IsFalse, IsTrue, None, Ok, length, slice_index, ℕ};
 ghost use Rattle.client_world.specs.World.{World};
 ghost use Rattle.insn_plan.specs.{Act.{Pending, unchanged, value_of}, Looks.{FollowsBy, Shows}, Plan.{Follows, after_commit}};
 ghost use Rattle.insn_plan.specs.{Registers.{cut_address}, Stack.{has_big_stack, stack_pointer, with_push, pending_of_pushes, esp_up}};
@@ -24,17 +24,32 @@ pub fn has_big_stack(m: &Machine) -> bool
     m.is_big(SegReg::Ss)
 }
 
+/// The same by a look. Quick looks miss where the hidden part of SS isn't there. Source: own.
+#[inline(always)]
+#[tactic(auto, unfolding(crate::specs::Stack::has_big_stack))]
+pub fn look_at_size<L: Look>(m: &Machine) -> Result<bool, L::Missed>
+    ensures is { IfOk result (λ big. big ≡ has_big_stack m.now.world) }
+    ensures silent { IfErr result (λ missed. L.reported missed ≡ None) }
+{
+    if let Some(big) = m.quick_size(SegReg::Ss) {
+        return Ok(big);
+    }
+    L::rare()?;
+    Ok(has_big_stack(m))
+}
+
 /// ESP with the stack pointer n bytes further up: ESP where `big`, else SP, which wraps at 64 KB and leaves the upper half.
 /// Source: 80386 Programmer's Reference Manual, ch. 2, "Stack Implementation".
 #[inline(always)]
 pub fn esp_up(big: bool, n: u32, esp: u32) -> u32
     ensures { result ≡ esp_up big n esp }
 {
-    let sp = cut_address(
-        big,
-        u64::from(cut_address(big, u64::from(esp))) + u64::from(n),
-    );
-    with_address(big, esp, sp)
+    let up = u64::from(esp) + u64::from(n);
+    if big {
+        cut_address(true, up)
+    } else {
+        with_address(false, esp, cut_address(false, up))
+    }
 }
 
 /// ESP after n items of a width, 8, 16 or 32 bits, are popped. Source: 80386 Programmer's Reference Manual, ch. 17, POP.
@@ -82,16 +97,31 @@ pub fn stack_item(m: &Machine, width: u8, place: u8) -> Result<u32, Raised>
 }
 
 /// Reads the item of a width, 8, 16 or 32 bits, at the top of the stack, by a look; or gives what the look that misses returns. The machine
-/// stays.
+/// stays. `big` says that the stack pointer is ESP.
 /// Source: 80386 Programmer's Reference Manual, ch. 17, POP.
 #[inline(always)]
 #[tactic(auto, using(crate::proofs::TopItem::top_item))]
+pub fn look_at_top_of<L: Look>(m: &mut Machine, big: bool, width: u8) -> Result<u32, L::Missed>
+    requires { big ≡ has_big_stack m.old.world }
+    ensures value { Shows L.reported result (value_of m.old.world (stack_item m.old.world width 0)) }
+    ensures kept { m.new ≡ m.old }
+{
+    let sp = cut_address(big, u64::from(m.registers().esp));
+    L::read(m, SegReg::Ss, sp, width)
+}
+
+/// The same of any stack.
+/// Source: 80386 Programmer's Reference Manual, ch. 17, POP.
+#[inline(always)]
 pub fn look_at_top<L: Look>(m: &mut Machine, width: u8) -> Result<u32, L::Missed>
     ensures value { Shows L.reported result (value_of m.old.world (stack_item m.old.world width 0)) }
     ensures kept { m.new ≡ m.old }
 {
-    let sp = stack_pointer(m, m.registers());
-    L::read(m, SegReg::Ss, sp, width)
+    if look_at_size::<L>(m)? {
+        look_at_top_of::<L>(m, true, width)
+    } else {
+        look_at_top_of::<L>(m, false, width)
+    }
 }
 
 /// Reads the item of a width, 8, 16 or 32 bits, at the top of the stack, or gives the fault of the access. Where a quick look doesn't show
@@ -107,6 +137,23 @@ pub fn top_item(m: &mut Machine, width: u8) -> Result<u32, Raised>
     read_width(m, SegReg::Ss, sp, width)
 }
 
+// Pushes a number of a width, where it is known whether the stack pointer is ESP.
+#[inline(always)]
+#[tactic(auto, unfolding(crate::specs::Stack::with_pushed_number, crate::specs::Plan::after_commit, //
+client_world::specs::General::with_general))]
+fn push_on<L: Look>(m: &mut Machine, big: bool, width: u8, v: u32) -> Result<(), L::Missed>
+    requires { big ≡ has_big_stack m.old.world }
+    ensures { FollowsBy L.reported m.old m.new result
+        (after_commit m.old (with_pushed_number m.old.world width v (unchanged m.old.world))) }
+{
+    let sp = pointer_down(big, byte_count(width), m.registers().esp);
+    L::write(m, SegReg::Ss, sp, width, v)?;
+    // ESP is read once more, so that where the stack pointer is SP, half of it is stored.
+    let esp = with_address(big, m.registers().esp, sp);
+    m.set_general(ESP, esp);
+    Ok(())
+}
+
 /// Pushes a number of a width, with a way to look; where the look misses, nothing is changed.
 /// Source: 80386 Programmer's Reference Manual, ch. 17, PUSH.
 #[inline(always)]
@@ -116,12 +163,11 @@ pub fn push_number<L: Look>(m: &mut Machine, width: u8, v: u32) -> Result<(), L:
     ensures { FollowsBy L.reported m.old m.new result
         (after_commit m.old (with_pushed_number m.old.world width v (unchanged m.old.world))) }
 {
-    let big = has_big_stack(m);
-    let esp = m.registers().esp;
-    let sp = pointer_down(big, byte_count(width), esp);
-    L::write(m, SegReg::Ss, sp, width, v)?;
-    m.set_general(ESP, with_address(big, esp, sp));
-    Ok(())
+    if look_at_size::<L>(m)? {
+        push_on::<L>(m, true, width, v)
+    } else {
+        push_on::<L>(m, false, width, v)
+    }
 }
 
 // The same by the tables.
