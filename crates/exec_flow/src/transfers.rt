@@ -7,16 +7,16 @@ guest_space::specs::Pending::first_write_fault, guest_space::specs::Pending::aft
 
 ghost use Rattle.std.specs.Prelude.{◌≡◌, IfErr, OnOk, false};
 ghost use Rattle.client_world.specs.Loading.{transfer_fault};
-ghost use Rattle.exec_flow.specs.Transfers.{at_operand_size, call, count_down, immediate, jcc, jcxz, jmp, loop_while, ret, target};
+ghost use Rattle.exec_flow.specs.Transfers.{at_operand_size, call, immediate, jcc, jcxz, jmp, loop_while, ret, target};
 ghost use Rattle.guest_space.specs.Registers.{with_registers};
-ghost use Rattle.insn_plan.specs.{Act.{value_of}, Looks.{Clears, Shows}};
+ghost use Rattle.insn_plan.specs.{Act.{value_of}, Looks.{CarriesOutBy, Clears, Shows}, Stack.{has_big_stack}};
 
-use crate::stack_tops::released_esp;
 use client_world::general::{ECX, ESP};
-use guest_space::Machine;
+use guest_space::{Machine, byte_count};
 use insn_forms::{Insn, Operand};
 use insn_plan::{
-    InsnRow, Look, condition, counter, cut_address, look_at_top, push_number, with_address,
+    InsnRow, Look, condition, counter, cut_address, esp_up, look_at_size, look_at_top_of,
+    push_number, with_address,
 };
 
 // The target of a near transfer, before it is cut.
@@ -92,12 +92,19 @@ impl InsnRow for Jcxz {
     }
 }
 
-// The counter less 1.
+// The row of LOOP at an address size.
 #[inline(always)]
-fn count_down(m: &Machine, i: &Insn) -> u32
-    ensures { result ≡ count_down m.now.world i.now }
+fn loop_at<L: Look>(holds: bool, m: &mut Machine, i: &Insn, addr32: bool) -> Result<(), L::Missed>
+    requires { i.now.addr32 ≡ addr32 }
+    ensures { CarriesOutBy L.reported m.old m.new result (loop_while holds m.old.world i.now) }
 {
-    cut_address(i.addr32, u64::from(counter(m, i)) + 0xFFFF_FFFF)
+    let ip = target::<L>(m, i)?;
+    let count = cut_address(addr32, u64::from(m.registers().ecx) + 0xFFFF_FFFF);
+    if holds && count != 0 {
+        near_transfer::<L>(m, i, ip)?;
+    }
+    m.set_general(ECX, with_address(addr32, m.registers().ecx, count));
+    Ok(())
 }
 
 /// LOOP, and LOOPE and LOOPNE with whether their condition holds. Source: 80386 Programmer's Reference Manual, ch. 17.
@@ -111,14 +118,11 @@ impl InsnRow for Loop {
 
     #[inline(always)]
     fn carry_out<L: Look>(self, m: &mut Machine, i: &Insn) -> Result<(), L::Missed> {
-        let ip = target::<L>(m, i)?;
-        let count = count_down(m, i);
-        let ecx = with_address(i.addr32, m.registers().ecx, count);
-        if self.holds && count != 0 {
-            near_transfer::<L>(m, i, ip)?;
+        if i.addr32 {
+            loop_at::<L>(self.holds, m, i, true)
+        } else {
+            loop_at::<L>(self.holds, m, i, false)
         }
-        m.set_general(ECX, ecx);
-        Ok(())
     }
 }
 
@@ -137,6 +141,22 @@ impl InsnRow for Jmp {
     }
 }
 
+// The row of CALL at a width.
+#[inline(always)]
+#[tactic(auto, unfolding(crate::specs::Transfers::call, crate::specs::Transfers::near_transfer, insn_plan::specs::Plan::after_plan), //
+using(insn_plan::proofs::WrittenState::settled_with, insn_plan::proofs::WrittenState::refused_with))]
+fn call_at<L: Look>(m: &mut Machine, i: &Insn, width: u8) -> Result<(), L::Missed>
+    requires { i.now.width ≡ width }
+    ensures { CarriesOutBy L.reported m.old m.new result (call m.old.world i.now) }
+{
+    let ip = target::<L>(m, i)?;
+    let eip = at_operand_size(i, ip);
+    L::check_near(m, eip)?;
+    push_number::<L>(m, width, m.registers().eip)?;
+    m.set_eip(eip);
+    Ok(())
+}
+
 /// CALL. Source: 80386 Programmer's Reference Manual, ch. 17.
 #[derive(Clone, Copy)]
 pub(crate) struct Call;
@@ -145,15 +165,15 @@ impl InsnRow for Call {
     ghost plan = { λ row w i. call w i };
 
     #[inline(always)]
-    #[tactic(auto, unfolding(crate::specs::Transfers::call, crate::specs::Transfers::near_transfer, insn_plan::specs::Plan::after_plan), //
-    using(insn_plan::proofs::WrittenState::settled_with, insn_plan::proofs::WrittenState::refused_with))]
     fn carry_out<L: Look>(self, m: &mut Machine, i: &Insn) -> Result<(), L::Missed> {
-        let ip = target::<L>(m, i)?;
-        let eip = at_operand_size(i, ip);
-        L::check_near(m, eip)?;
-        push_number::<L>(m, i.width, m.registers().eip)?;
-        m.set_eip(eip);
-        Ok(())
+        match i.width {
+            16 => call_at::<L>(m, i, 16),
+            32 => call_at::<L>(m, i, 32),
+            width => {
+                L::rare()?;
+                call_at::<L>(m, i, width)
+            }
+        }
     }
 }
 
@@ -168,6 +188,20 @@ pub(crate) fn immediate(operand: &Operand) -> u32
     }
 }
 
+// The row of RET at a width, where `big` says that the stack pointer is ESP.
+#[inline(always)]
+fn ret_at<L: Look>(m: &mut Machine, i: &Insn, width: u8, big: bool) -> Result<(), L::Missed>
+    requires same { i.now.width ≡ width }
+    requires stack { big ≡ has_big_stack m.old.world }
+    ensures { CarriesOutBy L.reported m.old m.new result (ret m.old.world i.now) }
+{
+    let ip = look_at_top_of::<L>(m, big, width)?;
+    near_transfer::<L>(m, i, u64::from(ip))?;
+    let popped = esp_up(big, u32::from(byte_count(width)), m.registers().esp);
+    m.set_general(ESP, esp_up(big, immediate(&i.first), popped));
+    Ok(())
+}
+
 /// RET. Source: 80386 Programmer's Reference Manual, ch. 17.
 #[derive(Clone, Copy)]
 pub(crate) struct Ret;
@@ -177,10 +211,15 @@ impl InsnRow for Ret {
 
     #[inline(always)]
     fn carry_out<L: Look>(self, m: &mut Machine, i: &Insn) -> Result<(), L::Missed> {
-        let ip = look_at_top::<L>(m, i.width)?;
-        let esp = released_esp(m, i.width, 1, immediate(&i.first));
-        near_transfer::<L>(m, i, u64::from(ip))?;
-        m.set_general(ESP, esp);
-        Ok(())
+        match (i.width, look_at_size::<L>(m)?) {
+            (16, false) => ret_at::<L>(m, i, 16, false),
+            (16, true) => ret_at::<L>(m, i, 16, true),
+            (32, false) => ret_at::<L>(m, i, 32, false),
+            (32, true) => ret_at::<L>(m, i, 32, true),
+            (width, big) => {
+                L::rare()?;
+                ret_at::<L>(m, i, width, big)
+            }
+        }
     }
 }
