@@ -1,8 +1,8 @@
 -- The cache of translations: a page that is walked once is walked so at each of its bytes, and the walks of a memory stay the same where
 -- the places of linear addresses and the addresses of places do.
 use Rattle.std.proofs.Common.{◌≡◌, ℕ, zero, suc, [], ◌∷◌, ◌+◌, ◌*◌, ◌/◌, ◌%◌, ◌<◌, ◌≤◌, ◌^◌, ◌⊎◌, inl, inr, Bool, true, false}
-use Rattle.std.proofs.Common.{if◌then◌else◌, List, length, replicate, set, length-set, refl, ap, ◌∙◌, sym, subst, arith}
-use Rattle.std.proofs.{Common.{Result, Ok, Err}, lemmas.Bool.{cases_lt}, lemmas.Bool.Decides.{nat_tests}, lemmas.List.{get_or-set_other, get_or-set_same}}
+use Rattle.std.proofs.Common.{if◌then◌else◌, List, length, slice_index_or, replicate, set, length-set, refl, ap, ◌∙◌, sym, subst, arith}
+use Rattle.std.proofs.{Common.{Result, Ok, Err}, lemmas.Bool.{cases_lt}, lemmas.List.{get_or-set_other, get_or-set_same}}
 use Rattle.client_world.specs.{declared.faults.PageFault.{PageFault}, declared.host_frames.TheConstants.{PAGE_SIZE, PAGE_DIRECTORY}}
 use Rattle.client_world.specs.declared.host_frames.TheConstants.{TABLE_ENTRIES, BUDGET_FRAMES, BLOCK_TABLES, BLOCK_TABLE_FRAMES, BLOCK_ROWS}
 use Rattle.client_world.specs.declared.host_frames.TheConstants.{BLOCK_ROW_FRAMES, DESCRIPTORS}
@@ -15,7 +15,7 @@ use Rattle.desc_table.proofs.RowLaws.{length-row_bytes}
 use Rattle.host_memory.specs.{Holds.{Holds}, Law.{walk_result}, Layout.{address_of}, View.{MachineView}, Records.{record_size}}
 use Rattle.host_memory.proofs.{Parts.{addresses_by, addresses_of}, WalkLaw.{walk_agrees}}
 use Rattle.page_tables.specs.{Walk.{walked, walk_end, fault, directory_entry, table_entry}, declared.entry.TheConstants.{TABLE_SPAN}}
-use Rattle.guest_space.specs.{declared.pages.CacheEntry.{CacheEntry}, Cache.{ends, Hit, Warm, empty_entry, entry_at, page_for, pages_in_all}}
+use Rattle.guest_space.specs.{declared.pages.CacheEntry.{CacheEntry}, Cache.{ends, Hit, cached_answer, Warm, empty_entry, entry_at, pages_in_all}}
 use Rattle.guest_space.specs.{declared.pages.TheConstants.{CACHE_SIZE}, Machines.{Processor, IsMachine, held_world}, Records.{record_place}}
 use Rattle.guest_space.specs.Transfer.{translated, with_places}
 use Rattle.guest_space.proofs.{ArenaWrites.{with_arena, arena_has}, MemoryAlone.{same_places}, Machines.{AllBytes, machine_of}}
@@ -29,35 +29,25 @@ empty_at zero i low = absurd (omega arith)
 empty_at (suc n) zero low = refl
 empty_at (suc n) (suc i) low = empty_at n i (omega arith)
 
-serves_none : (write : Bool) → page_for empty_entry write < pages_in_all → ⊥
-serves_none true less = omega arith
-serves_none false less = omega arith
-
-none_used : (i : ℕ) (write : Bool) → i < 64 → page_for (entry_at (replicate 64 empty_entry) i) write < pages_in_all → ⊥
-none_used i write low less = serves_none write (subst (λ (e : CacheEntry). page_for e write < pages_in_all) (empty_at 64 i low) less)
+empty_page : (i : ℕ) → i < 64 → (entry_at (replicate 64 empty_entry) i).page ≡ pages_in_all
+empty_page i low = ap (λ (e : CacheEntry). e.page) (empty_at 64 i low)
 
 pub empty_warm : (b : List ℕ) → Warm b (replicate 64 empty_entry)
 empty_warm b = record {
   long = refl;
-  hit = λ i write within used. absurd (none_used i write within used);
-  place = λ i write within used. absurd (none_used i write within used);
+  hit = λ i within few. absurd (omega (arith, empty_page i within));
+  place = λ i within few. absurd (omega (arith, empty_page i within));
 }
 
 -- an entry that serves says where the walk ends
-hit_ends : (b : List ℕ) (e : CacheEntry) (lin : ℕ) (write : Bool) → Hit b e → page_for e write ≡ lin / PAGE_SIZE → lin < 2 ^ 32 →
-    walked b PAGE_DIRECTORY lin write ≡ Ok (e.start + lin % PAGE_SIZE)
-hit_ends b e lin true hit page small =
-    let same : e.written ≡ e.page = hit.written (omega arith) in
-    let is : e.page ≡ lin / PAGE_SIZE = sym same ∙ page in
-    grind (arith, nat_tests)
-hit_ends b e lin false hit page small = grind arith
+noted_ends : (e : CacheEntry) (at : ℕ) (write : Bool) → (write ≡ true → e.writable ≡ true) →
+    cached_answer e at write ≡ Ok (PAGE_SIZE * e.frame + at)
+noted_ends e at true may = rw (may refl) refl
+noted_ends e at false may = refl
 
-pub served : (b : List ℕ) (cache : List CacheEntry) (i lin : ℕ) (write : Bool) → Warm b cache → i < CACHE_SIZE → lin < 2 ^ 32 →
-    let e = entry_at cache i in page_for e write ≡ lin / PAGE_SIZE →
-    (e.start + lin % PAGE_SIZE < 2 ^ 32) × (walked b PAGE_DIRECTORY lin write ≡ Ok (e.start + lin % PAGE_SIZE))
-served b cache i lin write warm low small page =
-    let hit = warm.hit i write low (omega arith) in
-    (omega arith, hit_ends b (entry_at cache i) lin write hit page small)
+pub hit_ends : (b : List ℕ) (e : CacheEntry) (lin : ℕ) (write : Bool) → Hit b e → e.page ≡ lin / PAGE_SIZE →
+    (write ≡ true → e.writable ≡ true) → walked b PAGE_DIRECTORY lin write ≡ Ok (PAGE_SIZE * e.frame + lin % PAGE_SIZE)
+hit_ends b e lin write hit page may = grind (arith, noted_ends)
 
 -- a walk that ends at one byte of a page ends at each
 
@@ -119,14 +109,13 @@ page_noted b lin at p within e =
 
 pub entry_hits : (b : List ℕ) (lin p : ℕ) (on : Bool) → lin < 2 ^ 32 → p < 2 ^ 32 → walked b PAGE_DIRECTORY lin false ≡ end_at p →
     on ≡ ends (walked b PAGE_DIRECTORY lin true) →
-    Hit b (record { page = lin / PAGE_SIZE; written = if on then lin / PAGE_SIZE else pages_in_all; start = PAGE_SIZE * (p / PAGE_SIZE) })
-entry_hits b lin p true small low reads writes = grind (arith, nat_tests, page_noted, same_page)
-entry_hits b lin p false small low reads writes = grind (arith, nat_tests, page_noted, same_page)
+    Hit b (record { used = true; page = lin / PAGE_SIZE; frame = p / PAGE_SIZE; writable = on })
+entry_hits b lin p on small low reads writes = grind (arith, page_noted, same_page)
 
 -- one entry set: what holds of each entry in use at its place
 
 abbrev AllUsed : (ℕ → CacheEntry → Type 0) → List CacheEntry → Type 0
-AllUsed Q cache = (i : ℕ) (write : Bool) → i < 64 → page_for (entry_at cache i) write < pages_in_all → Q i (entry_at cache i)
+AllUsed Q cache = (i : ℕ) → i < 64 → (entry_at cache i).page < pages_in_all → Q i (entry_at cache i)
 
 all_set : (Q : ℕ → CacheEntry → Type 0) (cache : List CacheEntry) (j : ℕ) (e : CacheEntry) → j < length cache → AllUsed Q cache → Q j e →
     AllUsed Q (set cache j e)

@@ -1,8 +1,8 @@
 // From a linear address to the memory: by the page tables, and by the cache of their translations.
-ghost use Rattle.std.specs.Prelude.{ℕ, ◌≡◌, ◌≤◌, ◌<◌, ◌%◌, IfSome, MatchResult, Ok, None, Some, true, false, ◌/◌, IsTrue, List, if◌then◌else◌};
+ghost use Rattle.std.specs.Prelude.{ℕ, ◌≡◌, ◌≤◌, ◌<◌, ◌%◌, IfSome, MatchResult, Ok, None, Some, true, false, ◌/◌, IsTrue, List};
 ghost use Rattle.client_world.specs.{declared.host_frames.TheConstants.{PAGE_SIZE, PAGE_DIRECTORY}, Access.{may_touch, page_fault}};
 ghost use Rattle.client_world.specs.Access.{place_of};
-ghost use Rattle.guest_space.specs.{Transfer.{translated, linear_access, fault_of}, Cache.{ends, page_for, pages_in_all, Hit, Warm}};
+ghost use Rattle.guest_space.specs.{Transfer.{translated, linear_access, fault_of}, Cache.{ends, Hit, Warm}};
 ghost use Rattle.guest_space.specs.declared.pages.TheConstants.{CACHE_SIZE};
 ghost use Rattle.page_tables.specs.Walk.{IsFrame, TablesInside, walked};
 
@@ -21,21 +21,23 @@ pub(crate) const CACHE_SIZE: usize = 64;
 // A number that no page has.
 const NO_PAGE: u32 = 0x10_0000;
 
-/// Where a linear page lies in the memory: the number of a page that may be read, the same number where it may be written too, and the
-/// address of its first byte. An entry that isn't in use has a number that no page has, so that one comparison tells whether an entry
-/// serves. A page is at its own place: its number modulo the number of entries.
+/// Where a linear page lies in the memory: its frame, and whether it may be written. Only a page that may be read is in use, and it is at
+/// its own place: its number modulo the number of entries. An entry that isn't in use has a number that no page has, so that a look compares
+/// numbers alone.
 /// Source: 80386 Programmer's Reference Manual, ch. 5, "Page Translation Cache".
 #[derive(Clone, Copy, Debug, PartialEq, Eq)]
 pub struct CacheEntry {
+    pub used: bool,
     pub page: u32,
-    pub written: u32,
-    pub start: usize,
+    pub frame: u32,
+    pub writable: bool,
 }
 
 const EMPTY: CacheEntry = CacheEntry {
+    used: false,
     page: NO_PAGE,
-    written: NO_PAGE,
-    start: 0,
+    frame: 0,
+    writable: false,
 };
 
 /// A cache with no entry in use.
@@ -58,24 +60,19 @@ impl CacheEntry {
     /// Whether the entry tells of the page of a linear address, and for a write that it may be written.
     #[inline(always)]
     pub(crate) fn serves(&self, lin: u32, write: bool) -> bool
-        ensures { IsTrue result → page_for self.now write ≡ lin / PAGE_SIZE }
+        ensures { IsTrue result → (self.now.page ≡ lin / PAGE_SIZE) × (write ≡ true → self.now.writable ≡ true) }
     {
-        let page = if write { self.written } else { self.page };
-        page == lin / PAGE_SIZE
+        self.page == lin / PAGE_SIZE && (!write || self.writable)
     }
 }
 
-// The number of a linear address's page where it may be written, else that of none.
-fn written_page(ram: &Ram, lin: u32) -> u32
+// Whether the byte of a linear address may be written.
+fn is_writable(ram: &Ram, lin: u32) -> bool
     requires root { IsFrame ram.now PAGE_DIRECTORY }
     requires tables { TablesInside ram.now PAGE_DIRECTORY }
-    ensures { result ≡ if ends (walked ram.now PAGE_DIRECTORY lin true) then lin / PAGE_SIZE else pages_in_all }
+    ensures { result ≡ ends (walked ram.now PAGE_DIRECTORY lin true) }
 {
-    if walk(ram, PAGE_DIRECTORY, lin, true).is_ok() {
-        lin / PAGE_SIZE
-    } else {
-        NO_PAGE
-    }
+    walk(ram, PAGE_DIRECTORY, lin, true).is_ok()
 }
 
 // The entry of a page of which a byte may be read, by where that ends.
@@ -87,9 +84,10 @@ fn entry_of(ram: &Ram, lin: u32, at: u32) -> CacheEntry
     ensures page { result.page ≡ lin / PAGE_SIZE }
 {
     CacheEntry {
+        used: true,
         page: lin / PAGE_SIZE,
-        written: written_page(ram, lin),
-        start: (PAGE_SIZE * (at / PAGE_SIZE)) as usize,
+        frame: at / PAGE_SIZE,
+        writable: is_writable(ram, lin),
     }
 }
 
@@ -111,7 +109,7 @@ impl Machine {
     {
         let entry = &self.cache[cache_place(lin)];
         if entry.serves(lin, write) {
-            Some((entry.start + (lin % PAGE_SIZE) as usize) as u32)
+            Some(PAGE_SIZE * entry.frame + lin % PAGE_SIZE)
         } else {
             None
         }

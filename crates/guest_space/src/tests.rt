@@ -61,9 +61,10 @@ fn compare(machine: &Machine) -> Result<(), &'static str> {
     };
     same("hidden parts", hidden == [Some(part); 6])?;
     let entry = CacheEntry {
+        used: false,
         page: 0x10_0000,
-        written: 0x10_0000,
-        start: 0,
+        frame: 0,
+        writable: false,
     };
     same("cache", cache == [entry; CACHE_SIZE])
 }
