@@ -1,14 +1,14 @@
 -- What the rows of instructions whose first operand is a register make of the machine, and what a shape says.
 use Rattle.std.proofs.{Common.{◌≡◌, ℕ, ◌<◌, ◌%◌, ◌∙◌, Bool, Ok, arith, refl, sym}, lemmas.Bool.{lt-ltb}}
-use Rattle.client_world.specs.{declared.registers.Regs.{Regs}, World.{World}}
+use Rattle.client_world.specs.World.{World}
 use Rattle.cpu_values.specs.Word.{cut}
 use Rattle.exec_core.specs.{Arithmetic.{Formula, SingleFormula, binary, compare, unary}, Moves.{lea, mov, operand_offset}}
 use Rattle.exec_core.specs.{Shaped.{HasOperands, with_result}, Shifts.{shift}}
 use Rattle.guest_space.specs.{Pending.{first_write_fault, after_writes}, Registers.{with_registers}}
 use Rattle.host_memory.specs.View.{MachineView}
 use Rattle.insn_forms.specs.{declared.insn.Insn.{Insn}, declared.insn.Operand.TheVariants.{Reg}, Shapes.{HasShape, shape_width}}
-use Rattle.insn_plan.specs.{Act.{Input, Pending, Read, done, value_of}, Operands.{source}, Plan.{CarriesOut, after_plan, after_commit, plan_result}, Registers.{register}}
-use Rattle.insn_plan.specs.Registers.{with_register}
+use Rattle.insn_plan.specs.{Act.{Input, Pending, Read, done, value_of}, Operands.{source}, Registers.{register, with_register}}
+use Rattle.insn_plan.specs.Plan.{CarriesOut, after_plan, after_commit, plan_result}
 use Rattle.insn_plan.proofs.WrittenState.{put_in_register, put_with_flags_in_register}
 
 from_register : (w : World) (addr32 : Bool) (width own n : ℕ) →

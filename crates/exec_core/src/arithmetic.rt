@@ -67,7 +67,8 @@ pub(crate) use at_register;
 // Replaces a number in memory by a result, and sets the flags. `$a` names its old value in `$result`, which gives result and flags; `$b`
 // names the second operand's, of its own width, where the operation has one, and `$ahead` is that where it is known.
 macro_rules! change_number {
-    ($look:ident, $width:ident, $m:ident, $i:ident, $form:ident, $a:ident $(, $b:ident: $second_width:expr, $ahead:ident)? => $result:expr) => {{
+    ($look:ident, $width:ident, $m:ident, $i:ident, $form:ident, $a:ident
+    $(, $b:ident: $second_width:expr, $ahead:ident)? => $result:expr) => {{
         let number = $look::number($m, $i.addr32, $width, $form)?;
         $(let $b = source_after::<$look>($m, $i.addr32, $second_width, &$i.second, $ahead)?;)?
         let $a = number.value;

@@ -1,5 +1,5 @@
--- The shape of an instruction: its width, its register, and of what kinds its first two operands are, as one number, so that a row is reached
--- by one jump. Source: own.
+-- The shape of an instruction: its width, its register, and of what kinds its first two operands are, as one number, so that a row is
+-- reached by one jump. Source: own.
 --
 --   Shape        First operand   Second operand
 --   0 to 23      its register    a register of the same width
@@ -14,8 +14,8 @@ use Rattle.client_world.specs.declared.segments.SegReg.TheVariants.{Ds}
 use Rattle.insn_forms.specs.{declared.insn.Insn.{Insn}, declared.insn.MemForm.{MemForm}, declared.insn.Operand.{Operand}}
 use Rattle.insn_forms.specs.declared.insn.Operand.TheVariants as operands
 
--- the width of a shape's operands. Below 120 eight shapes one after another have the same, one for each number of the register; from there on
--- there is one for each width
+-- the width of a shape's operands. Below 120 eight shapes one after another have the same, one for each number of the register; from
+-- there on there is one for each width
 abbrev pub shape_width : ℕ → ℕ
 shape_width shape =
     let step = if nat_lt shape 120 then shape / 8 % 3 else shape % 3 in
