@@ -1,17 +1,17 @@
--- Instructions whose first operand is a register, and whose second is not in memory. Source: own.
-use Rattle.std.specs.Prelude.{◌≡◌, ℕ}
+-- What the shape of an instruction tells its row. Source: own.
+use Rattle.std.specs.Prelude.{◌≡◌, ℕ, Ok}
 use Rattle.client_world.specs.{declared.registers.Flags.{Flags}, World.{World}}
 use Rattle.guest_space.specs.Registers.{with_registers}
 use Rattle.host_memory.specs.View.{MachineView}
-use Rattle.insn_forms.specs.{declared.insn.Insn.{Insn}, declared.insn.Operand.TheVariants.{Reg}}
-use Rattle.insn_plan.specs.{Act.{Given}, Operands.{source}, Registers.{with_register}}
+use Rattle.insn_forms.specs.{declared.insn.Insn.{Insn}, declared.insn.Operand.{Operand}}
+use Rattle.insn_plan.specs.{Act.{value_of}, Operands.{source}, Registers.{with_register}}
 
--- the instruction's width is `size`, its first operand is the register n of that width, and its second gives b, at whatever width it is
--- read
-pub record IsOnRegister (w : World) (i : Insn) (size n b : ℕ) : Type 0 where
+-- the instruction's width is `size`, its first operand is `destination`, and its second gives b; if that is in memory, then at the width
+-- `read`
+pub record HasOperands (w : World) (i : Insn) (size read : ℕ) (destination : Operand) (b : ℕ) : Type 0 where
   pub width : i.width ≡ size
-  pub first : i.first ≡ Reg size n
-  pub second : (other : ℕ) → source w.regs i.addr32 other i.second ≡ Given b
+  pub first : i.first ≡ destination
+  pub second : value_of w (source w.regs i.addr32 read i.second) ≡ Ok b
 
 -- the machine with a result in the register n of a width, and with its flags
 abbrev pub with_result : ℕ → ℕ → ℕ × Flags → MachineView → MachineView

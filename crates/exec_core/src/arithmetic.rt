@@ -4,22 +4,22 @@ insn_plan::specs::Operands::put_operand, insn_plan::specs::Act::value_of, crate:
 crate::specs::Arithmetic::unary, insn_plan::specs::Plan::after_plan, insn_plan::specs::Plan::after_commit, //
 guest_space::specs::Pending::first_write_fault, guest_space::specs::Pending::after_writes))]
 
-ghost use Rattle.std.specs.Prelude.{◌≡◌, IsTrue};
+ghost use Rattle.std.specs.Prelude.{◌≡◌, IfSome, IsTrue, Ok};
 ghost use Rattle.cpu_alu.specs.Sums.{sub_of};
 ghost use Rattle.cpu_values.specs.Word.{IsWidth, cut};
 ghost use Rattle.exec_core.specs.{Arithmetic.{binary, compare, unary}, Shaped.{with_result}};
 ghost use Rattle.guest_space.specs.Registers.{with_registers};
-ghost use Rattle.insn_forms.specs.Kinds.{is_width};
-ghost use Rattle.insn_plan.specs.{Looks.{CarriesOutBy}, Registers.{register}};
+ghost use Rattle.insn_forms.specs.{Kinds.{is_width}, declared.insn.Operand.TheVariants.{Mem}};
+ghost use Rattle.insn_plan.specs.{Act.{value_of}, Looks.{CarriesOutBy}, Operands.{source}, Registers.{register}};
 
 use crate::operations::{Binary, BinaryAt, Unary, UnaryAt};
-use crate::shaped::RegisterRow;
+use crate::shaped::ShapedRow;
 use client_world::Flags;
 use cpu_alu::sub;
 use cpu_values::cut;
 use guest_space::Machine;
-use insn_forms::{Insn, Operand};
-use insn_plan::{InsnRow, Look, put_register, register, register_width, source_after};
+use insn_forms::{Insn, MemForm, Operand};
+use insn_plan::{InsnRow, Look, offset_of, put_register, register, register_width, source_after};
 
 // The row of an operation at a width of 8, 16 or 32 bits, which the compiler then knows.
 macro_rules! at_width {
@@ -64,21 +64,33 @@ macro_rules! at_register {
 
 pub(crate) use at_register;
 
+// Replaces a number in memory by a result, and sets the flags. `$a` names its old value in `$result`, which gives result and flags; `$b`
+// names the second operand's, of its own width, where the operation has one, and `$ahead` is that where it is known.
+macro_rules! change_number {
+    ($look:ident, $width:ident, $m:ident, $i:ident, $form:ident, $a:ident
+    $(, $b:ident: $second_width:expr, $ahead:ident)? => $result:expr) => {{
+        let number = $look::number($m, $i.addr32, $width, $form)?;
+        $(let $b = source_after::<$look>($m, $i.addr32, $second_width, &$i.second, $ahead)?;)?
+        let $a = number.value;
+        let (v, flags) = $result;
+        $look::put_back($m, $form.seg, $width, number.off, number.at, v)?;
+        $m.set_flags(flags);
+        Ok(())
+    }};
+}
+
+pub(crate) use change_number;
+
 // Replaces the first operand by a result, and sets the flags. `$a` names its old value in `$result`, which gives result and flags; `$b`
-// names the second operand's, of its own width, where the operation has one. `$change` does it on the register `$n` of the width `$own`.
+// names the second operand's, of its own width, where the operation has one. `$change` does it on the register `$n` of the width `$own`,
+// and `$put` in memory, where `$ahead` is the second operand's value if it is known.
 macro_rules! change_first {
-    ($look:ident, $width:ident, $m:ident, $i:ident, $a:ident $(, $b:ident: $second_width:expr)? => $result:expr,
-    $own:ident, $n:ident => $change:expr) => {
+    ($look:ident, $width:ident, $m:ident, $i:ident, $a:ident $(, $b:ident: $second_width:expr, $ahead:ident)? => $result:expr,
+    $own:ident, $n:ident => $change:expr, $form:ident => $put:expr) => {
         match &$i.first {
-            Operand::Mem(form) => {
-                $(let ahead = $look::ahead($m, $i.addr32, $second_width, &$i.second)?;)?
-                let number = $look::number($m, $i.addr32, $width, form)?;
-                $(let $b = source_after::<$look>($m, $i.addr32, $second_width, &$i.second, ahead)?;)?
-                let $a = number.value;
-                let (v, flags) = $result;
-                $look::put_back($m, form.seg, $width, number.off, number.at, v)?;
-                $m.set_flags(flags);
-                Ok(())
+            Operand::Mem($form) => {
+                $(let $ahead = $look::ahead($m, $i.addr32, $second_width, &$i.second)?;)?
+                $put
             }
             Operand::Reg { width, number } => {
                 let ($own, number) = (register_width::<$look>($width, *width)?, *number);
@@ -141,6 +153,23 @@ fn change<const W: u8, O: BinaryAt<W>>(m: &mut Machine, own: u8, n: u8, b: u32)
     put_register(m, own, n, v);
 }
 
+// A number in memory becomes the result of an operation of W bits.
+#[inline(always)]
+fn change_in_memory<const W: u8, L: Look, O: BinaryAt<W>>(
+    m: &mut Machine,
+    i: &Insn,
+    form: &MemForm,
+    ahead: Option<u32>,
+) -> Result<(), L::Missed>
+    requires width { IsWidth W }
+    requires same { i.now.width ≡ W }
+    requires first { i.now.first ≡ Mem form.now }
+    requires ahead { IfSome ahead (λ v. value_of m.old.world (source m.old.world.regs i.now.addr32 W i.now.second) ≡ Ok v) }
+    ensures { CarriesOutBy L.reported m.old m.new result (binary O.formula m.old.world i.now) }
+{
+    change_number!(L, W, m, i, form, a, b: W, ahead => result_of::<W, O>(m, a, b))
+}
+
 // The row of an operation of two numbers of W bits.
 #[inline(always)]
 fn binary_at<const W: u8, L: Look, O: BinaryAt<W>>(
@@ -151,7 +180,8 @@ fn binary_at<const W: u8, L: Look, O: BinaryAt<W>>(
     requires same { i.now.width ≡ W }
     ensures { CarriesOutBy L.reported m.old m.new result (binary O.formula m.old.world i.now) }
 {
-    change_first!(L, W, m, i, a, b: W => result_of::<W, O>(m, a, b), own, n => change::<W, O>(m, own, n, b))
+    change_first!(L, W, m, i, a, b: W, ahead => result_of::<W, O>(m, a, b),
+        own, n => change::<W, O>(m, own, n, b), form => change_in_memory::<W, L, O>(m, i, form, ahead))
 }
 
 /// ADD, OR, ADC, SBB, AND, SUB, XOR. Source: 80386 Programmer's Reference Manual, ch. 17.
@@ -167,10 +197,21 @@ impl<O: Binary> InsnRow for Arithmetic<O> {
     }
 }
 
-impl<const W: u8, O: Binary + BinaryAt<W>> RegisterRow<W> for Arithmetic<O> {
+impl<const W: u8, O: Binary + BinaryAt<W>> ShapedRow<W, W> for Arithmetic<O> {
     #[inline(always)]
     fn on_register(self, m: &mut Machine, i: &Insn, n: u8, b: u32) {
         change::<W, O>(m, W, n, b);
+    }
+
+    #[inline(always)]
+    fn in_memory<L: Look>(
+        self,
+        m: &mut Machine,
+        i: &Insn,
+        form: &MemForm,
+        b: u32,
+    ) -> Result<(), L::Missed> {
+        change_in_memory::<W, L, O>(m, i, form, Some(b))
     }
 }
 
@@ -214,11 +255,25 @@ impl<O: Binary> InsnRow for Comparison<O> {
     }
 }
 
-impl<const W: u8, O: Binary + BinaryAt<W>> RegisterRow<W> for Comparison<O> {
+impl<const W: u8, O: Binary + BinaryAt<W>> ShapedRow<W, W> for Comparison<O> {
     #[inline(always)]
     fn on_register(self, m: &mut Machine, i: &Insn, n: u8, b: u32) {
         let a = register(m.registers(), W, n);
         set_flags_of::<W, O>(m, a, b);
+    }
+
+    #[inline(always)]
+    fn in_memory<L: Look>(
+        self,
+        m: &mut Machine,
+        i: &Insn,
+        form: &MemForm,
+        b: u32,
+    ) -> Result<(), L::Missed> {
+        let off = offset_of(m.registers(), i.addr32, form);
+        let a = L::read(m, form.seg, off, W)?;
+        set_flags_of::<W, O>(m, a, b);
+        Ok(())
     }
 }
 
@@ -258,6 +313,21 @@ fn change_one<const W: u8, O: UnaryAt<W>>(m: &mut Machine, own: u8, n: u8)
     put_register(m, own, n, v);
 }
 
+// A number in memory becomes the result of an operation of W bits.
+#[inline(always)]
+fn change_one_in_memory<const W: u8, L: Look, O: UnaryAt<W>>(
+    m: &mut Machine,
+    i: &Insn,
+    form: &MemForm,
+) -> Result<(), L::Missed>
+    requires width { IsWidth W }
+    requires same { i.now.width ≡ W }
+    requires first { i.now.first ≡ Mem form.now }
+    ensures { CarriesOutBy L.reported m.old m.new result (unary O.formula m.old.world i.now) }
+{
+    change_number!(L, W, m, i, form, a => result_of_one::<W, O>(m, a))
+}
+
 // The row of an operation of one number of W bits.
 #[inline(always)]
 fn unary_at<const W: u8, L: Look, O: UnaryAt<W>>(m: &mut Machine, i: &Insn) -> Result<(), L::Missed>
@@ -265,7 +335,8 @@ fn unary_at<const W: u8, L: Look, O: UnaryAt<W>>(m: &mut Machine, i: &Insn) -> R
     requires same { i.now.width ≡ W }
     ensures { CarriesOutBy L.reported m.old m.new result (unary O.formula m.old.world i.now) }
 {
-    change_first!(L, W, m, i, a => result_of_one::<W, O>(m, a), own, n => change_one::<W, O>(m, own, n))
+    change_first!(L, W, m, i, a => result_of_one::<W, O>(m, a),
+        own, n => change_one::<W, O>(m, own, n), form => change_one_in_memory::<W, L, O>(m, i, form))
 }
 
 /// INC, DEC, NEG, NOT. Source: 80386 Programmer's Reference Manual, ch. 17.
@@ -281,9 +352,20 @@ impl<O: Unary> InsnRow for OneOperand<O> {
     }
 }
 
-impl<const W: u8, O: Unary + UnaryAt<W>> RegisterRow<W> for OneOperand<O> {
+impl<const W: u8, O: Unary + UnaryAt<W>> ShapedRow<W, W> for OneOperand<O> {
     #[inline(always)]
     fn on_register(self, m: &mut Machine, i: &Insn, n: u8, b: u32) {
         change_one::<W, O>(m, W, n);
+    }
+
+    #[inline(always)]
+    fn in_memory<L: Look>(
+        self,
+        m: &mut Machine,
+        i: &Insn,
+        form: &MemForm,
+        b: u32,
+    ) -> Result<(), L::Missed> {
+        change_one_in_memory::<W, L, O>(m, i, form)
     }
 }

@@ -19,13 +19,13 @@ use crate::operations::{
     SubtractWithBorrow,
 };
 use crate::products::{Signed, Unsigned, divide, multiply, multiply_signed};
-use crate::shaped::{run_one, run_two};
+use crate::shaped::{run_one, run_shift, run_two};
 use crate::shift_operations::{
     RotateLeft, RotateLeftThroughCarry, RotateRight, RotateRightThroughCarry, ShiftArithmeticRight,
     ShiftLeft, ShiftRight,
 };
 use crate::shifts::{ShiftLeftDouble, ShiftRightDouble, Shifting, shift_in};
-use crate::stacks::{Pop, Push, popa, pusha};
+use crate::stacks::{popa, pusha, run_pop, run_push};
 use crate::strings::{Cmps, Lods, Movs, Scas, Stos};
 use client_world::Event;
 use guest_space::Machine;
@@ -99,13 +99,13 @@ pub fn carry_out_core(
         Op::Aas => Some(adjust_after_subtraction(m)),
         Op::Aam => Some(adjust_after_product(m, insn)),
         Op::Aad => Some(adjust_before_division(m, insn)),
-        Op::Rol => Some(run_two(Shifting(RotateLeft), m, insn, shape)),
-        Op::Ror => Some(run_two(Shifting(RotateRight), m, insn, shape)),
-        Op::Rcl => Some(run_two(Shifting(RotateLeftThroughCarry), m, insn, shape)),
-        Op::Rcr => Some(run_two(Shifting(RotateRightThroughCarry), m, insn, shape)),
-        Op::Shl => Some(run_two(Shifting(ShiftLeft), m, insn, shape)),
-        Op::Shr => Some(run_two(Shifting(ShiftRight), m, insn, shape)),
-        Op::Sar => Some(run_two(Shifting(ShiftArithmeticRight), m, insn, shape)),
+        Op::Rol => Some(run_shift(Shifting(RotateLeft), m, insn, shape)),
+        Op::Ror => Some(run_shift(Shifting(RotateRight), m, insn, shape)),
+        Op::Rcl => Some(run_shift(Shifting(RotateLeftThroughCarry), m, insn, shape)),
+        Op::Rcr => Some(run_shift(Shifting(RotateRightThroughCarry), m, insn, shape)),
+        Op::Shl => Some(run_shift(Shifting(ShiftLeft), m, insn, shape)),
+        Op::Shr => Some(run_shift(Shifting(ShiftRight), m, insn, shape)),
+        Op::Sar => Some(run_shift(Shifting(ShiftArithmeticRight), m, insn, shape)),
         Op::Shld => Some(shift_in::<ShiftLeftDouble>(m, insn)),
         Op::Shrd => Some(shift_in::<ShiftRightDouble>(m, insn)),
         Op::Bt => Some(bit_test(m, insn)),
@@ -124,8 +124,8 @@ pub fn carry_out_core(
         Op::Cwd => Some(cwd(m, insn)),
         Op::Lahf => Some(lahf(m)),
         Op::Sahf => Some(sahf(m)),
-        Op::Push if is_no_segment(&insn.first) => Some(run_row(Push, m, insn)),
-        Op::Pop if is_no_segment(&insn.first) => Some(run_row(Pop, m, insn)),
+        Op::Push if is_no_segment(&insn.first) => Some(run_push(m, insn, shape)),
+        Op::Pop if is_no_segment(&insn.first) => Some(run_pop(m, insn, shape)),
         Op::Pusha => Some(pusha(m, insn)),
         Op::Popa => Some(popa(m, insn)),
         Op::Movs => Some(run_row(Movs { len }, m, insn)),

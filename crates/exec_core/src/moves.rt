@@ -7,14 +7,14 @@ guest_space::specs::Pending::after_writes))]
 ghost use Rattle.std.specs.Prelude.{◌≡◌, ◌<◌, ◌^◌, IsTrue, Ok};
 ghost use Rattle.cpu_values.specs.Word.{cut};
 ghost use Rattle.exec_core.specs.Moves.{mov, movzx, movsx, xchg, lea, xlat, cbw, cwd, sign_extended, sign_bits, half_width, operand_offset};
-ghost use Rattle.insn_forms.specs.{Kinds.{is_width}, Shapes.{HasShape, shape_width}};
-ghost use Rattle.insn_plan.specs.{Looks.{CarriesOutBy}, Plan.{CarriesOut}};
+ghost use Rattle.insn_forms.specs.{Kinds.{is_width}, Shapes.{HasShape, shape_width}, declared.insn.Operand.TheVariants.{Mem}};
+ghost use Rattle.insn_plan.specs.{Act.{value_of}, Looks.{CarriesOutBy}, Operands.{source}, Plan.{CarriesOut}};
 
 use crate::arithmetic::at_known_width;
-use crate::shaped::{RegisterRow, at_shape};
+use crate::shaped::{ShapedRow, at_shape};
 use client_world::general::{EAX, EDX};
 use guest_space::Machine;
-use insn_forms::{Insn, Operand};
+use insn_forms::{Insn, MemForm, Operand};
 use insn_plan::{
     InsnRow, Look, Next, Raised, cut_address, offset_of, put_operand, put_register, read_width,
     register, register_width, source,
@@ -34,6 +34,24 @@ pub(crate) fn cut(width: u8, v: u32) -> u32
     }
 }
 
+// A number in memory becomes what the source gives.
+#[inline(always)]
+fn mov_to_memory<L: Look>(
+    m: &mut Machine,
+    i: &Insn,
+    form: &MemForm,
+    width: u8,
+    v: u32,
+) -> Result<(), L::Missed>
+    requires width { i.now.width ≡ width }
+    requires first { i.now.first ≡ Mem form.now }
+    requires second { value_of m.old.world (source m.old.world.regs i.now.addr32 width i.now.second) ≡ Ok v }
+    ensures { CarriesOutBy L.reported m.old m.new result (mov m.old.world i.now) }
+{
+    let off = offset_of(m.registers(), i.addr32, form);
+    L::write(m, form.seg, off, width, v)
+}
+
 // The row of MOV at a width.
 #[inline(always)]
 fn mov_at<L: Look>(m: &mut Machine, i: &Insn, width: u8) -> Result<(), L::Missed>
@@ -46,10 +64,7 @@ fn mov_at<L: Look>(m: &mut Machine, i: &Insn, width: u8) -> Result<(), L::Missed
             let own = register_width::<L>(width, *own)?;
             put_register(m, own, *number, v);
         }
-        Operand::Mem(form) => {
-            let off = offset_of(m.registers(), i.addr32, form);
-            L::write(m, form.seg, off, width, v)?;
-        }
+        Operand::Mem(form) => mov_to_memory::<L>(m, i, form, width, v)?,
         _ => {}
     }
     Ok(())
@@ -68,10 +83,21 @@ impl InsnRow for Mov {
     }
 }
 
-impl<const W: u8> RegisterRow<W> for Mov {
+impl<const W: u8> ShapedRow<W, W> for Mov {
     #[inline(always)]
     fn on_register(self, m: &mut Machine, i: &Insn, n: u8, b: u32) {
         put_register(m, W, n, b);
+    }
+
+    #[inline(always)]
+    fn in_memory<L: Look>(
+        self,
+        m: &mut Machine,
+        i: &Insn,
+        form: &MemForm,
+        b: u32,
+    ) -> Result<(), L::Missed> {
+        mov_to_memory::<L>(m, i, form, W, b)
     }
 }
 
@@ -139,16 +165,24 @@ fn operand_offset(m: &Machine, i: &Insn, operand: &Operand) -> u32
 
 // Puts an offset into the register of a shape, `known` as a constant, whose registers have that width.
 #[inline(always)]
-fn put_offset(m: &mut Machine, i: &Insn, shape: usize, known: u8, width: u8, off: u32)
+fn put_offset(
+    m: &mut Machine,
+    i: &Insn,
+    shape: usize,
+    known: u8,
+    width: u8,
+    off: u32,
+) -> Result<(), Raised>
     requires shape { HasShape shape i.now }
     requires known { known ≡ shape }
     requires some { known < 96 }
     requires wide { shape_width known ≡ width }
     requires width { IsTrue (is_width width) }
     requires off { off ≡ operand_offset m.old.world i.now i.now.second }
-    ensures { CarriesOut m.old m.new (Ok tt) (lea m.old.world i.now) }
+    ensures { CarriesOut m.old m.new result (lea m.old.world i.now) }
 {
     put_register(m, width, known % 8, cut(width, off));
+    Ok(())
 }
 
 /// LEA. Its shape leads to its register. Source: 80386 Programmer's Reference Manual, ch. 17.

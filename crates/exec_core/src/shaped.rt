@@ -1,21 +1,35 @@
-// Rows on registers. The shape of an instruction leads to its first register by one jump.
-ghost use Rattle.std.specs.Prelude.{◌≡◌, ◌<◌, ℕ, IsTrue, Ok};
+// Rows by their shapes. The shape of an instruction leads to its register by one jump, and says where its other operand is.
+ghost use Rattle.std.specs.Prelude.{◌≡◌, ◌<◌, ◌≤◌, ◌%◌, ◌⊎◌, ℕ, IsTrue, Ok};
 ghost use Rattle.cpu_values.specs.Word.{IsWidth};
-ghost use Rattle.exec_core.specs.Shaped.{IsOnRegister};
-ghost use Rattle.insn_forms.specs.{Kinds.{is_width}, Shapes.{HasShape, shape_width}};
-ghost use Rattle.insn_plan.specs.{Act.{Given}, Operands.{source}, Plan.{CarriesOut}};
+ghost use Rattle.exec_core.specs.Shaped.{HasOperands};
+ghost use Rattle.insn_forms.specs.{Kinds.{is_width}, Shapes.{HasShape, shape_width}, declared.insn.Operand.TheVariants.{Mem, Reg}};
+ghost use Rattle.insn_plan.specs.{Act.{value_of}, Looks.{CarriesOutBy}, Operands.{source}, Plan.{CarriesOut}};
 
+use crate::arithmetic::at_register;
 use guest_space::Machine;
-use insn_forms::{Insn, Operand};
-use insn_plan::{InsnRow, Raised, register, run_row};
+use insn_forms::{Insn, MemForm, Operand};
+use insn_plan::{InsnRow, Look, Quick, Raised, register, run_row, shown_in_memory};
 
-/// A row that has a body for a first operand that is a register of W bits, and a second that gives a number.
-pub(crate) trait RegisterRow<const W: u8>: InsnRow {
+/// A row that has a body for a first operand of W bits in a register and one in memory, where the second gives a number. In memory that is
+/// read at S bits.
+pub(crate) trait ShapedRow<const W: u8, const S: u8>: InsnRow {
     /// Carries it out on the register of that number.
     fn on_register(self, m: &mut Machine, i: &Insn, n: u8, b: u32)
         requires width { IsWidth W }
-        requires operands { IsOnRegister m.old.world i.now W n b }
+        requires operands { HasOperands m.old.world i.now W S (Reg W n) b }
         ensures { CarriesOut m.old m.new (Ok tt) (Self.plan self m.old.world i.now) };
+
+    /// Carries it out on memory where no look misses; where one does, nothing is changed.
+    fn in_memory<L: Look>(
+        self,
+        m: &mut Machine,
+        i: &Insn,
+        form: &MemForm,
+        b: u32,
+    ) -> Result<(), L::Missed>
+        requires width { IsWidth W }
+        requires operands { HasOperands m.old.world i.now W S (Mem form.now) b }
+        ensures { CarriesOutBy L.reported m.old m.new result (Self.plan self m.old.world i.now) };
 }
 
 // Does something for each of these shapes by itself, so that the compiler knows the shape and with it a register, and else something other.
@@ -24,8 +38,7 @@ macro_rules! at_shape {
         match $shape {
             $($($literal => {
                 let $known = $literal;
-                $run;
-                Ok(())
+                $run
             })*)*
             _ => $other,
         }
@@ -34,55 +47,142 @@ macro_rules! at_shape {
 
 pub(crate) use at_shape;
 
-// What the second operand of a shape gives; nothing is 0. `known` is the shape as a constant, and `width` that of its registers.
+// What the second operand of a shape gives that isn't in memory; nothing is 0. `known` is the shape as a constant, and `width` its width.
 #[inline(always)]
-#[tactic(auto, unfolding(insn_plan::specs::Operands::source))]
+#[tactic(auto, unfolding(insn_plan::specs::Operands::source, insn_plan::specs::Act::value_of))]
 fn second_number(m: &Machine, i: &Insn, shape: usize, known: u8, width: u8) -> u32
     requires shape { HasShape shape i.now }
     requires known { known ≡ shape }
-    requires some { known < 72 }
+    requires some { (known < 72) ⊎ (96 ≤ known) }
+    requires few { known < 126 }
     requires width { shape_width known ≡ width }
-    ensures { (size : ℕ) → source m.now.world.regs i.now.addr32 size i.now.second ≡ Given result }
+    ensures { (size : ℕ) → value_of m.now.world (source m.now.world.regs i.now.addr32 size i.now.second) ≡ Ok result }
 {
-    if known < 24 {
-        match &i.second {
+    match known {
+        0..=23 => match &i.second {
             Operand::Reg { width: _, number } => register(m.registers(), width, *number % 8),
             _ => unreachable!(),
-        }
-    } else if known < 48 {
-        match &i.second {
+        },
+        96..=119 => register(m.registers(), width, known % 8),
+        24..=47 | 120..=122 => match &i.second {
             Operand::Imm(v) => *v,
             _ => unreachable!(),
-        }
-    } else {
-        0
+        },
+        _ => 0,
     }
 }
 
-// The row on the register of a shape.
+// The row on the register of a shape, where the second operand gives b.
 #[inline(always)]
-fn run_shape<const W: u8, R: RegisterRow<W>>(
+fn run_on<const W: u8, const S: u8, R: ShapedRow<W, S>>(
+    row: R,
+    m: &mut Machine,
+    i: &Insn,
+    shape: usize,
+    n: u8,
+    b: u32,
+) -> Result<(), Raised>
+    requires wide { IsWidth W }
+    requires shape { HasShape shape i.now }
+    requires some { shape < 96 }
+    requires width { shape_width shape ≡ W }
+    requires number { n ≡ shape % 8 }
+    requires second { value_of m.old.world (source m.old.world.regs i.now.addr32 S i.now.second) ≡ Ok b }
+    ensures { CarriesOut m.old m.new result (R.plan row m.old.world i.now) }
+{
+    row.on_register(m, i, n, b);
+    Ok(())
+}
+
+// The row on the register of a shape whose second operand is not in memory.
+#[inline(always)]
+fn run_on_register<const W: u8, const S: u8, R: ShapedRow<W, S>>(
     row: R,
     m: &mut Machine,
     i: &Insn,
     shape: usize,
     known: u8,
-)
+) -> Result<(), Raised>
     requires wide { IsWidth W }
     requires shape { HasShape shape i.now }
     requires known { known ≡ shape }
     requires some { known < 72 }
     requires width { shape_width known ≡ W }
-    ensures { CarriesOut m.old m.new (Ok tt) (R.plan row m.old.world i.now) }
+    ensures { CarriesOut m.old m.new result (R.plan row m.old.world i.now) }
 {
     let b = second_number(m, i, shape, known, W);
-    row.on_register(m, i, known % 8, b);
+    run_on(row, m, i, shape, known % 8, b)
 }
 
-/// Carries out an instruction of two operands as `run_row` does. Its shape leads to its first register; it is as wide as a pointer, so that
-/// the jump by it needs no conversion. Source: own.
+// The row on the register of a shape whose second operand is in memory. It is read before the jump to the register.
 #[inline(never)]
-pub(crate) fn run_two<R: RegisterRow<8> + RegisterRow<16> + RegisterRow<32>>(
+fn run_from_memory<const W: u8, R: ShapedRow<W, W>>(
+    row: R,
+    m: &mut Machine,
+    i: &Insn,
+    shape: usize,
+) -> Result<(), Raised>
+    requires good { IsTrue (is_width i.now.width) }
+    requires wide { IsWidth W }
+    requires shape { HasShape shape i.now }
+    requires some { shape < 96 }
+    requires width { shape_width shape ≡ W }
+    ensures { CarriesOut m.old m.new result (R.plan row m.old.world i.now) }
+{
+    let Some(b) = shown_in_memory(m, i.addr32, W, &i.second) else {
+        return run_row(row, m, i);
+    };
+    let number = (shape % 8) as u8;
+    at_register!(number, n => run_on(row, m, i, shape, n, b))
+}
+
+// The row on memory, where the second operand gives b.
+#[inline(never)]
+fn run_on_memory<const W: u8, const S: u8, R: ShapedRow<W, S>>(
+    row: R,
+    m: &mut Machine,
+    i: &Insn,
+    b: u32,
+) -> Result<(), Raised>
+    requires good { IsTrue (is_width i.now.width) }
+    requires wide { IsWidth W }
+    requires width { i.now.width ≡ W }
+    requires second { value_of m.old.world (source m.old.world.regs i.now.addr32 S i.now.second) ≡ Ok b }
+    ensures { CarriesOut m.old m.new result (R.plan row m.old.world i.now) }
+{
+    if let Operand::Mem(form) = &i.first {
+        if let Ok(()) = row.in_memory::<Quick>(m, i, form, b) {
+            return Ok(());
+        }
+    }
+    run_row(row, m, i)
+}
+
+// The row of a shape whose first operand is in memory.
+#[inline(always)]
+fn run_in_memory<const W: u8, const S: u8, R: ShapedRow<W, S>>(
+    row: R,
+    m: &mut Machine,
+    i: &Insn,
+    shape: usize,
+    known: u8,
+) -> Result<(), Raised>
+    requires good { IsTrue (is_width i.now.width) }
+    requires wide { IsWidth W }
+    requires shape { HasShape shape i.now }
+    requires known { known ≡ shape }
+    requires some { 96 ≤ known }
+    requires few { known < 126 }
+    requires width { shape_width known ≡ W }
+    ensures { CarriesOut m.old m.new result (R.plan row m.old.world i.now) }
+{
+    let b = second_number(m, i, shape, known, W);
+    run_on_memory(row, m, i, b)
+}
+
+// A row of two operands, one of which is in memory. It is out of line, so that a row on registers makes no call.
+#[inline(never)]
+fn run_two_with_memory<R: ShapedRow<8, 8> + ShapedRow<16, 16> + ShapedRow<32, 32>>(
     row: R,
     m: &mut Machine,
     i: &Insn,
@@ -94,16 +194,104 @@ pub(crate) fn run_two<R: RegisterRow<8> + RegisterRow<16> + RegisterRow<32>>(
 {
     at_shape!(
         shape, known,
-        0 1 2 3 4 5 6 7 24 25 26 27 28 29 30 31 => run_shape::<8, R>(row, m, i, shape, known),
-        8 9 10 11 12 13 14 15 32 33 34 35 36 37 38 39 => run_shape::<16, R>(row, m, i, shape, known),
-        16 17 18 19 20 21 22 23 40 41 42 43 44 45 46 47 => run_shape::<32, R>(row, m, i, shape, known),
+        72 73 74 75 76 77 78 79 => run_from_memory::<8, R>(row, m, i, shape),
+        80 81 82 83 84 85 86 87 => run_from_memory::<16, R>(row, m, i, shape),
+        88 89 90 91 92 93 94 95 => run_from_memory::<32, R>(row, m, i, shape),
+        96 97 98 99 100 101 102 103 120 => run_in_memory::<8, 8, R>(row, m, i, shape, known),
+        104 105 106 107 108 109 110 111 121 => run_in_memory::<16, 16, R>(row, m, i, shape, known),
+        112 113 114 115 116 117 118 119 122 => run_in_memory::<32, 32, R>(row, m, i, shape, known),
+        _ => run_row(row, m, i)
+    )
+}
+
+/// Carries out an instruction of two operands as `run_row` does. Its shape leads to its register; it is as wide as a pointer, so that the
+/// jump by it needs no conversion. Source: own.
+#[inline(never)]
+pub(crate) fn run_two<R: ShapedRow<8, 8> + ShapedRow<16, 16> + ShapedRow<32, 32>>(
+    row: R,
+    m: &mut Machine,
+    i: &Insn,
+    shape: usize,
+) -> Result<(), Raised>
+    requires width { IsTrue (is_width i.now.width) }
+    requires shape { HasShape shape i.now }
+    ensures { CarriesOut m.old m.new result (R.plan row m.old.world i.now) }
+{
+    at_shape!(
+        shape, known,
+        0 1 2 3 4 5 6 7 24 25 26 27 28 29 30 31 => run_on_register::<8, 8, R>(row, m, i, shape, known),
+        8 9 10 11 12 13 14 15 32 33 34 35 36 37 38 39 => run_on_register::<16, 16, R>(row, m, i, shape, known),
+        16 17 18 19 20 21 22 23 40 41 42 43 44 45 46 47 => run_on_register::<32, 32, R>(row, m, i, shape, known),
+        _ => run_two_with_memory(row, m, i, shape)
+    )
+}
+
+// A shift of a number in memory by an immediate.
+#[inline(never)]
+fn run_shift_with_memory<R: ShapedRow<8, 8> + ShapedRow<16, 8> + ShapedRow<32, 8>>(
+    row: R,
+    m: &mut Machine,
+    i: &Insn,
+    shape: usize,
+) -> Result<(), Raised>
+    requires width { IsTrue (is_width i.now.width) }
+    requires shape { HasShape shape i.now }
+    ensures { CarriesOut m.old m.new result (R.plan row m.old.world i.now) }
+{
+    at_shape!(
+        shape, known,
+        120 => run_in_memory::<8, 8, R>(row, m, i, shape, known),
+        121 => run_in_memory::<16, 8, R>(row, m, i, shape, known),
+        122 => run_in_memory::<32, 8, R>(row, m, i, shape, known),
+        _ => run_row(row, m, i)
+    )
+}
+
+/// The same for a shift by an immediate, of which a byte counts.
+#[inline(never)]
+pub(crate) fn run_shift<R: ShapedRow<8, 8> + ShapedRow<16, 8> + ShapedRow<32, 8>>(
+    row: R,
+    m: &mut Machine,
+    i: &Insn,
+    shape: usize,
+) -> Result<(), Raised>
+    requires width { IsTrue (is_width i.now.width) }
+    requires shape { HasShape shape i.now }
+    ensures { CarriesOut m.old m.new result (R.plan row m.old.world i.now) }
+{
+    at_shape!(
+        shape, known,
+        24 25 26 27 28 29 30 31 => run_on_register::<8, 8, R>(row, m, i, shape, known),
+        32 33 34 35 36 37 38 39 => run_on_register::<16, 8, R>(row, m, i, shape, known),
+        40 41 42 43 44 45 46 47 => run_on_register::<32, 8, R>(row, m, i, shape, known),
+        _ => run_shift_with_memory(row, m, i, shape)
+    )
+}
+
+// A row of one operand in memory.
+#[inline(never)]
+fn run_one_with_memory<R: ShapedRow<8, 8> + ShapedRow<16, 16> + ShapedRow<32, 32>>(
+    row: R,
+    m: &mut Machine,
+    i: &Insn,
+    shape: usize,
+) -> Result<(), Raised>
+    requires width { IsTrue (is_width i.now.width) }
+    requires shape { HasShape shape i.now }
+    ensures { CarriesOut m.old m.new result (R.plan row m.old.world i.now) }
+{
+    at_shape!(
+        shape, known,
+        123 => run_in_memory::<8, 8, R>(row, m, i, shape, known),
+        124 => run_in_memory::<16, 16, R>(row, m, i, shape, known),
+        125 => run_in_memory::<32, 32, R>(row, m, i, shape, known),
         _ => run_row(row, m, i)
     )
 }
 
 /// The same for an instruction of one operand.
 #[inline(never)]
-pub(crate) fn run_one<R: RegisterRow<8> + RegisterRow<16> + RegisterRow<32>>(
+pub(crate) fn run_one<R: ShapedRow<8, 8> + ShapedRow<16, 16> + ShapedRow<32, 32>>(
     row: R,
     m: &mut Machine,
     i: &Insn,
@@ -115,9 +303,9 @@ pub(crate) fn run_one<R: RegisterRow<8> + RegisterRow<16> + RegisterRow<32>>(
 {
     at_shape!(
         shape, known,
-        48 49 50 51 52 53 54 55 => run_shape::<8, R>(row, m, i, shape, known),
-        56 57 58 59 60 61 62 63 => run_shape::<16, R>(row, m, i, shape, known),
-        64 65 66 67 68 69 70 71 => run_shape::<32, R>(row, m, i, shape, known),
-        _ => run_row(row, m, i)
+        48 49 50 51 52 53 54 55 => run_on_register::<8, 8, R>(row, m, i, shape, known),
+        56 57 58 59 60 61 62 63 => run_on_register::<16, 16, R>(row, m, i, shape, known),
+        64 65 66 67 68 69 70 71 => run_on_register::<32, 32, R>(row, m, i, shape, known),
+        _ => run_one_with_memory(row, m, i, shape)
     )
 }

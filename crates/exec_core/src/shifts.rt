@@ -1,19 +1,19 @@
 // Shifts and rotates, and the double shifts.
-ghost use Rattle.std.specs.Prelude.{◌≡◌, IsTrue};
+ghost use Rattle.std.specs.Prelude.{◌≡◌, IfSome, IsTrue, Ok};
 ghost use Rattle.cpu_alu.specs.DoubleShifts.{shld_of, shrd_of};
 ghost use Rattle.cpu_values.specs.Word.{IsWidth, cut};
 ghost use Rattle.exec_core.specs.{Shaped.{with_result}, Shifts.{DoubleFormula, shift, shift_in}};
-ghost use Rattle.insn_forms.specs.Kinds.{is_width};
-ghost use Rattle.insn_plan.specs.{Looks.{CarriesOutBy}, Plan.{CarriesOut}, Registers.{register}};
+ghost use Rattle.insn_forms.specs.{Kinds.{is_width}, declared.insn.Operand.TheVariants.{Mem}};
+ghost use Rattle.insn_plan.specs.{Act.{value_of}, Looks.{CarriesOutBy}, Operands.{source}, Plan.{CarriesOut}, Registers.{register}};
 
-use crate::arithmetic::{at_register, at_width, change_first, flags_of};
-use crate::shaped::RegisterRow;
+use crate::arithmetic::{at_register, at_width, change_first, change_number, flags_of};
+use crate::shaped::ShapedRow;
 use crate::shift_operations::{Shift, ShiftAt};
 use client_world::Flags;
 use cpu_alu::{shld, shrd};
 use cpu_values::cut;
 use guest_space::Machine;
-use insn_forms::{Insn, Operand};
+use insn_forms::{Insn, MemForm, Operand};
 use insn_plan::{
     InsnRow, Look, Raised, put_register, put_with_flags, register, register_width, source,
     source_after,
@@ -42,6 +42,26 @@ fn shift_register<const W: u8, O: ShiftAt<W>>(m: &mut Machine, own: u8, n: u8, c
     put_register(m, own, n, v);
 }
 
+// A number in memory becomes itself moved, by a shift of W bits.
+#[inline(always)]
+#[tactic(auto, unfolding(crate::specs::Shifts::shift, insn_plan::specs::Operands::source, insn_plan::specs::Operands::put_operand, //
+insn_plan::specs::Act::value_of, insn_plan::specs::Plan::after_plan, insn_plan::specs::Plan::after_commit, //
+guest_space::specs::Pending::first_write_fault, guest_space::specs::Pending::after_writes))]
+fn shift_in_memory<const W: u8, L: Look, O: ShiftAt<W>>(
+    m: &mut Machine,
+    i: &Insn,
+    form: &MemForm,
+    ahead: Option<u32>,
+) -> Result<(), L::Missed>
+    requires width { IsWidth W }
+    requires same { i.now.width ≡ W }
+    requires first { i.now.first ≡ Mem form.now }
+    requires ahead { IfSome ahead (λ v. value_of m.old.world (source m.old.world.regs i.now.addr32 8 i.now.second) ≡ Ok v) }
+    ensures { CarriesOutBy L.reported m.old m.new result (shift O.formula m.old.world i.now) }
+{
+    change_number!(L, W, m, i, form, a, count: 8, ahead => shifted::<W, O>(m, a, count))
+}
+
 // The row of a shift of W bits.
 #[inline(always)]
 #[tactic(auto, unfolding(crate::specs::Shifts::shift, insn_plan::specs::Operands::source, insn_plan::specs::Operands::put_operand, //
@@ -52,7 +72,8 @@ fn shift_at<const W: u8, L: Look, O: ShiftAt<W>>(m: &mut Machine, i: &Insn) -> R
     requires same { i.now.width ≡ W }
     ensures { CarriesOutBy L.reported m.old m.new result (shift O.formula m.old.world i.now) }
 {
-    change_first!(L, W, m, i, a, count: 8 => shifted::<W, O>(m, a, count), own, n => shift_register::<W, O>(m, own, n, count))
+    change_first!(L, W, m, i, a, count: 8, ahead => shifted::<W, O>(m, a, count),
+        own, n => shift_register::<W, O>(m, own, n, count), form => shift_in_memory::<W, L, O>(m, i, form, ahead))
 }
 
 /// SHL, SHR, SAR, ROL, ROR, RCL, RCR. Source: 80386 Programmer's Reference Manual, ch. 17.
@@ -68,10 +89,21 @@ impl<O: Shift> InsnRow for Shifting<O> {
     }
 }
 
-impl<const W: u8, O: Shift + ShiftAt<W>> RegisterRow<W> for Shifting<O> {
+impl<const W: u8, O: Shift + ShiftAt<W>> ShapedRow<W, 8> for Shifting<O> {
     #[inline(always)]
     fn on_register(self, m: &mut Machine, i: &Insn, n: u8, b: u32) {
         shift_register::<W, O>(m, W, n, b);
+    }
+
+    #[inline(always)]
+    fn in_memory<L: Look>(
+        self,
+        m: &mut Machine,
+        i: &Insn,
+        form: &MemForm,
+        b: u32,
+    ) -> Result<(), L::Missed> {
+        shift_in_memory::<W, L, O>(m, i, form, Some(b))
     }
 }
 

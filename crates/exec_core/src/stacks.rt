@@ -4,21 +4,23 @@ insn_plan::specs::Operands::put_operand, client_world::specs::General::with_gene
 insn_plan::specs::Plan::after_plan, insn_plan::specs::Plan::after_commit, guest_space::specs::Pending::first_write_fault, //
 guest_space::specs::Pending::after_writes))]
 
-ghost use Rattle.std.specs.Prelude.{◌≡◌, ◌≢◌, ◌<◌, ℕ, Ok, false, slice_index};
+ghost use Rattle.std.specs.Prelude.{◌≡◌, ◌≢◌, ◌<◌, ℕ, IsTrue, Ok, false, slice_index};
 ghost use Rattle.exec_core.specs.Stacks.{push, pop, pusha, popa};
-ghost use Rattle.insn_plan.specs.{Act.{done, value_of}, Looks.{CarriesOutBy}, Plan.{CarriesOut, after_plan, plan_result}};
-ghost use Rattle.insn_plan.specs.Stack.{has_big_stack, pending_of_pushes, stack_item};
-ghost use Rattle.insn_forms.specs.declared.insn.Insn.{Insn};
+ghost use Rattle.guest_space.specs.Registers.{with_registers};
+ghost use Rattle.insn_plan.specs.{Act.{done, value_of}, Looks.{CarriesOutBy}, Operands.{source}, Plan.{CarriesOut, after_plan, plan_result}};
+ghost use Rattle.insn_plan.specs.{Registers.{with_register}, Stack.{has_big_stack, pending_of_pushes, stack_item}};
+ghost use Rattle.insn_forms.specs.{Kinds.{is_width}, Shapes.{HasShape, shape_width}, declared.insn.Insn.{Insn}};
 
-use crate::arithmetic::at_known_width;
+use crate::arithmetic::{at_known_width, at_register};
+use crate::shaped::at_shape;
 use client_world::general::{EAX, EBP, EBX, ECX, EDI, EDX, ESI, ESP};
 use client_world::{Regs, SegReg};
 use guest_space::{Machine, Write, byte_count};
 use insn_forms::{Insn, Operand};
 use insn_plan::{
-    InsnRow, Look, Raised, eight_items, esp_up, has_big_stack, item_pushed, look_at_top, offset_of,
-    popped_esp, push_number, put_register, register, register_width, settle_pushes, settle_quickly,
-    stack_item,
+    InsnRow, Look, Quick, Raised, eight_items, esp_up, has_big_stack, item_pushed, look_at_top,
+    offset_of, popped_esp, push_number, put_register, register, register_width, run_row,
+    settle_pushes, settle_quickly, shown_in_memory, stack_item,
 };
 
 // The row of PUSH at a width.
@@ -31,9 +33,9 @@ fn push_at<L: Look>(m: &mut Machine, i: &Insn, width: u8) -> Result<(), L::Misse
     push_number::<L>(m, width, v)
 }
 
-/// PUSH. Source: 80386 Programmer's Reference Manual, ch. 17.
+// PUSH as a row.
 #[derive(Clone, Copy)]
-pub(crate) struct Push;
+struct Push;
 
 impl InsnRow for Push {
     ghost plan = { λ row w i. push w i };
@@ -42,6 +44,78 @@ impl InsnRow for Push {
     fn carry_out<L: Look>(self, m: &mut Machine, i: &Insn) -> Result<(), L::Missed> {
         at_known_width!(push_at, L, m, i)
     }
+}
+
+// PUSH at a width that is known, of an operand that gives v.
+#[inline(never)]
+fn push_value<const W: u8>(m: &mut Machine, i: &Insn, v: u32) -> Result<(), Raised>
+    requires good { IsTrue (is_width i.now.width) }
+    requires width { i.now.width ≡ W }
+    requires first { value_of m.old.world (source m.old.world.regs i.now.addr32 W i.now.first) ≡ Ok v }
+    ensures { CarriesOut m.old m.new result (push m.old.world i.now) }
+{
+    match push_number::<Quick>(m, W, v) {
+        Ok(()) => Ok(()),
+        Err(_) => run_row(Push, m, i),
+    }
+}
+
+// PUSH of the register of a shape, `known` as a constant.
+#[inline(always)]
+fn push_register<const W: u8>(
+    m: &mut Machine,
+    i: &Insn,
+    shape: usize,
+    known: u8,
+) -> Result<(), Raised>
+    requires good { IsTrue (is_width i.now.width) }
+    requires shape { HasShape shape i.now }
+    requires known { known ≡ shape }
+    requires some { known < 96 }
+    requires width { shape_width known ≡ W }
+    ensures { CarriesOut m.old m.new result (push m.old.world i.now) }
+{
+    let v = register(m.registers(), W, known % 8);
+    push_value::<W>(m, i, v)
+}
+
+// PUSH of a number in memory.
+#[inline(never)]
+fn push_memory<const W: u8>(m: &mut Machine, i: &Insn) -> Result<(), Raised>
+    requires good { IsTrue (is_width i.now.width) }
+    requires width { i.now.width ≡ W }
+    ensures { CarriesOut m.old m.new result (push m.old.world i.now) }
+{
+    match shown_in_memory(m, i.addr32, W, &i.first) {
+        Some(v) => push_value::<W>(m, i, v),
+        None => run_row(Push, m, i),
+    }
+}
+
+/// PUSH. Its shape leads to its register. Source: 80386 Programmer's Reference Manual, ch. 17.
+#[inline(never)]
+pub(crate) fn run_push(m: &mut Machine, i: &Insn, shape: usize) -> Result<(), Raised>
+    requires width { IsTrue (is_width i.now.width) }
+    requires shape { HasShape shape i.now }
+    ensures { CarriesOut m.old m.new result (push m.old.world i.now) }
+{
+    at_shape!(
+        shape, known,
+        56 57 58 59 60 61 62 63 => push_register::<16>(m, i, shape, known),
+        64 65 66 67 68 69 70 71 => push_register::<32>(m, i, shape, known),
+        124 => push_memory::<16>(m, i),
+        125 => push_memory::<32>(m, i),
+        _ => run_row(Push, m, i)
+    )
+}
+
+// Sets ESP, and then a register of a width to what was popped.
+#[inline(always)]
+fn put_popped(m: &mut Machine, esp: u32, width: u8, n: u8, v: u32)
+    ensures { m.new ≡ with_registers (with_register (record m.old.world.regs { esp = esp }) width n v) m.old }
+{
+    m.set_general(ESP, esp);
+    put_register(m, width, n, v);
 }
 
 // The row of POP at a width.
@@ -55,8 +129,7 @@ fn pop_at<L: Look>(m: &mut Machine, i: &Insn, width: u8) -> Result<(), L::Missed
     match &i.first {
         Operand::Reg { width: own, number } => {
             let own = register_width::<L>(width, *own)?;
-            m.set_general(ESP, esp);
-            put_register(m, own, *number, v);
+            put_popped(m, esp, own, *number, v);
         }
         Operand::Mem(form) => {
             let r = Regs { esp, ..m.regs() };
@@ -68,9 +141,9 @@ fn pop_at<L: Look>(m: &mut Machine, i: &Insn, width: u8) -> Result<(), L::Missed
     Ok(())
 }
 
-/// POP. Source: 80386 Programmer's Reference Manual, ch. 17.
+// POP as a row.
 #[derive(Clone, Copy)]
-pub(crate) struct Pop;
+struct Pop;
 
 impl InsnRow for Pop {
     ghost plan = { λ row w i. pop w i };
@@ -78,6 +151,38 @@ impl InsnRow for Pop {
     #[inline(always)]
     fn carry_out<L: Look>(self, m: &mut Machine, i: &Insn) -> Result<(), L::Missed> {
         at_known_width!(pop_at, L, m, i)
+    }
+}
+
+// POP into the register of a shape.
+#[inline(never)]
+fn pop_register<const W: u8>(m: &mut Machine, i: &Insn, shape: usize) -> Result<(), Raised>
+    requires good { IsTrue (is_width i.now.width) }
+    requires shape { HasShape shape i.now }
+    requires some { shape < 96 }
+    requires width { shape_width shape ≡ W }
+    ensures { CarriesOut m.old m.new result (pop m.old.world i.now) }
+{
+    let Ok(v) = look_at_top::<Quick>(m, W) else {
+        return run_row(Pop, m, i);
+    };
+    let esp = popped_esp(m, W, 1);
+    let number = (shape % 8) as u8;
+    at_register!(number, n => put_popped(m, esp, W, n, v));
+    Ok(())
+}
+
+/// POP. Its shape leads to its register. Source: 80386 Programmer's Reference Manual, ch. 17.
+#[inline(never)]
+pub(crate) fn run_pop(m: &mut Machine, i: &Insn, shape: usize) -> Result<(), Raised>
+    requires width { IsTrue (is_width i.now.width) }
+    requires shape { HasShape shape i.now }
+    ensures { CarriesOut m.old m.new result (pop m.old.world i.now) }
+{
+    match shape {
+        56..=63 => pop_register::<16>(m, i, shape),
+        64..=71 => pop_register::<32>(m, i, shape),
+        _ => run_row(Pop, m, i),
     }
 }
 

@@ -1,10 +1,10 @@
-// The shapes of instructions: which register the first operand is, and of what kind the second is.
+// The shapes of instructions: their register, and of what kinds their first two operands are.
 ghost use Rattle.std.specs.Prelude.{◌≡◌, ◌%◌, ◌<◌, IfSome};
-ghost use Rattle.insn_forms.specs.Shapes.{HasShape, shape_width};
+ghost use Rattle.insn_forms.specs.{Shapes.{HasShape, memory_form, shape_width}, declared.insn.Operand.TheVariants.{Mem, Reg}};
 
 use crate::insn::{Insn, Operand};
 
-// The least shape of a register, where there is one of that width and number. The others are it plus 24, 48 and 72.
+// The least shape of a register, where there is one of that width and number. The others are it plus 24, 48, 72 and 96.
 fn register_shape(width: u8, number: u8) -> Option<u8>
     ensures few { IfSome result (λ shape. shape < 24) }
     ensures width { IfSome result (λ shape. shape_width shape ≡ width) }
@@ -23,27 +23,54 @@ fn register_shape(width: u8, number: u8) -> Option<u8>
 
 impl Insn {
     /// The shape of an instruction that is said to have none.
-    pub const NO_SHAPE: u8 = 96;
+    pub const NO_SHAPE: u8 = 126;
 
-    /// The shape of the instruction: one byte for its width, its first register and the kind of its second operand. Source: own.
+    // The shape where the first operand is the register of that number.
+    fn shape_on_register(&self, number: u8) -> Option<u8>
+        requires { self.now.first ≡ Reg self.now.width number }
+        ensures { IfSome result (λ shape. HasShape shape self.now) }
+    {
+        let first = register_shape(self.width, number)?;
+        match self.second {
+            Operand::Reg { width, number } if width == self.width && number % 8 == number => Some(
+                first,
+            ),
+            Operand::Imm(_) => Some(24 + first),
+            Operand::Empty => Some(48 + first),
+            Operand::Mem(_) => Some(72 + first),
+            _ => None,
+        }
+    }
+
+    // The shape where the first operand is in memory.
+    fn shape_in_memory(&self) -> Option<u8>
+        requires { self.now.first ≡ Mem (memory_form self.now.first) }
+        ensures { IfSome result (λ shape. HasShape shape self.now) }
+    {
+        let least = register_shape(self.width, 0)? / 8;
+        match self.second {
+            Operand::Reg { width, number } if width == self.width => Some(
+                96 + register_shape(width, number)?,
+            ),
+            Operand::Imm(_) => Some(120 + least),
+            Operand::Empty => Some(123 + least),
+            _ => None,
+        }
+    }
+
+    /// The shape of the instruction: one byte for its width, its register and the kinds of its first two operands. Source: own.
     #[inline(never)]
     pub fn shape(&self) -> u8
         ensures { HasShape result self.now }
     {
-        let Operand::Reg { width, number } = self.first else {
-            return Insn::NO_SHAPE;
+        let shape = match self.first {
+            Operand::Reg { width, number } if width == self.width => self.shape_on_register(number),
+            Operand::Mem(_) => self.shape_in_memory(),
+            _ => None,
         };
-        if width != self.width {
-            return Insn::NO_SHAPE;
-        }
-        let Some(first) = register_shape(width, number) else {
-            return Insn::NO_SHAPE;
-        };
-        match self.second {
-            Operand::Reg { width: own, number } if own == width && number % 8 == number => first,
-            Operand::Imm(_) => 24 + first,
-            Operand::Empty => 48 + first,
-            _ => 72 + first,
+        match shape {
+            Some(shape) => shape,
+            None => Insn::NO_SHAPE,
         }
     }
 }

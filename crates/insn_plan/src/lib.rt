@@ -20,10 +20,12 @@ mod targets;
 
 pub use accesses::{Access, Accesses, MAX_ACCESSES};
 pub use conditions::condition;
-pub use looks::{InsnRow, Look, NumberInMemory, register_width, run_row, source_after};
+pub use looks::{
+    InsnRow, Look, NumberInMemory, Quick, Unshown, register_width, run_row, source_after,
+};
 pub use loop_counter::counter;
 pub use next::{MAX_WRITES, Next};
-pub use operands::{put_operand, put_register, put_with_flags, source};
+pub use operands::{put_operand, put_register, put_with_flags, shown_in_memory, source};
 pub use raised::Raised;
 pub use read::{number_at, read_number, read_width};
 pub use registers::{cut_address, offset_of, register, set_register, with_address};

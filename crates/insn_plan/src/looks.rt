@@ -117,10 +117,11 @@ pub trait Look {
 
 /// What a quick look that misses returns: nothing is known of the access.
 #[derive(Drop)]
-pub(crate) struct Unshown;
+pub struct Unshown;
 
 /// Quick looks: at registers, hidden parts and the cache. They miss wherever the tables would have to be asked, and report nothing then.
-pub(crate) struct Quick;
+/// Source: own.
+pub struct Quick;
 
 impl Look for Quick {
     type Missed = Unshown;

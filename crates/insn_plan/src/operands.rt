@@ -42,15 +42,26 @@ pub(crate) fn at_hand(m: &Machine, addr32: bool, width: u8, operand: &Operand) -
     None
 }
 
-/// The same, or in memory where a quick look shows it. It is read with that width in memory.
+/// What an operand gives that is in memory, where a quick look shows it; `None` says nothing. It is read at that width. Source: own.
 #[inline(always)]
 #[tactic(auto, unfolding(crate::specs::Operands::source))]
+pub fn shown_in_memory(m: &Machine, addr32: bool, width: u8, operand: &Operand) -> Option<u32>
+    ensures { IfSome result (λ v. value_of m.now.world (source m.now.world.regs addr32 width operand.now) ≡ Ok v) }
+{
+    let Operand::Mem(f) = operand else {
+        return None;
+    };
+    let off = offset_of(m.registers(), addr32, f);
+    read_quickly(m, f.seg, off, width)
+}
+
+/// The same of any operand, in memory, in a register or in the instruction.
+#[inline(always)]
 pub(crate) fn shown(m: &Machine, addr32: bool, width: u8, operand: &Operand) -> Option<u32>
     ensures { IfSome result (λ v. value_of m.now.world (source m.now.world.regs addr32 width operand.now) ≡ Ok v) }
 {
-    if let Operand::Mem(f) = operand {
-        let off = offset_of(m.registers(), addr32, f);
-        return read_quickly(m, f.seg, off, width);
+    if let Operand::Mem(_) = operand {
+        return shown_in_memory(m, addr32, width, operand);
     }
     at_hand(m, addr32, width, operand)
 }

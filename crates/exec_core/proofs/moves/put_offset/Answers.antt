@@ -1,11 +1,15 @@
-use Rattle.std.proofs.Common.{◌%◌}
-use Rattle.exec_core.proofs.OnRegisters.{lea_on, shaped_first, shaped_width}
+use Rattle.std.proofs.Common.{◌≡◌, ◌%◌, ◌∙◌, arith, refl}
+use Rattle.exec_core.proofs.OnRegisters.{lea_on, shaped_first}
+use Rattle.insn_forms.specs.Shapes.{shape_width}
 use Rattle.exec_core.proofs.moves.put_offset.Goals as goal
 
 pub returns : goal.returns
 returns c =
     let i = c.args.i.now in
-    let wide = shaped_width i c.args.shape c.args.known c.args.width c.requires.shape c.requires.known c.requires.some c.requires.wide in
-    let first = shaped_first i c.args.shape c.args.known c.args.width c.requires.shape c.requires.known c.requires.some c.requires.wide in
-    let done = lea_on c.args.m.now i c.args.width (c.args.known % 8) wide first in
+    let shape = c.args.shape in
+    let width = c.args.width in
+    let wide : shape_width shape ≡ width = cc in
+    let number : c.args.known % 8 ≡ shape % 8 = cc in
+    let first = shaped_first i shape width (c.args.known % 8) c.requires.shape (omega arith) wide number in
+    let done = lea_on c.args.m.now i width (c.args.known % 8) (c.requires.shape.width (omega arith) ∙ wide) first in
     cc

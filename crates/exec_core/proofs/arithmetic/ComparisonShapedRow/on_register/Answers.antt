@@ -2,7 +2,7 @@ use Rattle.std.proofs.Common.{◌≡◌, ◌∙◌, sym, ap, Ok}
 use Rattle.host_memory.specs.View.{MachineView}
 use Rattle.insn_plan.specs.Registers.{register}
 use Rattle.exec_core.proofs.OnRegisters.{compare_on}
-use Rattle.exec_core.proofs.arithmetic.ComparisonRegisterRow.on_register.Goals as goal
+use Rattle.exec_core.proofs.arithmetic.ComparisonShapedRow.on_register.Goals as goal
 
 pub returns : goal.returns
 returns g c =

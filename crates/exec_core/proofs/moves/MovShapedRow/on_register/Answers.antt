@@ -1,7 +1,7 @@
 use Rattle.std.proofs.Common.{◌∙◌, sym, ap, Ok}
 use Rattle.host_memory.specs.View.{MachineView}
 use Rattle.exec_core.proofs.OnRegisters.{mov_on}
-use Rattle.exec_core.proofs.moves.MovRegisterRow.on_register.Goals as goal
+use Rattle.exec_core.proofs.moves.MovShapedRow.on_register.Goals as goal
 
 pub returns : goal.returns
 returns g c =
