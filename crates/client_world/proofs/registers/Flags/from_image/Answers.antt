@@ -1,0 +1,5 @@
+use Rattle.std.proofs.Common.{rules}
+use Rattle.client_world.proofs.registers.Flags.from_image.Goals as goal
+
+pub returns : goal.returns
+returns c = search rules

@@ -1,0 +1,5 @@
+use Rattle.std.proofs.Common.{rules}
+use Rattle.client_world.proofs.selectors.is_local.Goals as goal
+
+pub returns : goal.returns
+returns c = search rules

@@ -1,0 +1,5 @@
+use Rattle.std.proofs.Common.{rules}
+use Rattle.mz_loader.proofs.header.declared_length.Goals as goal
+
+pub returns-else-last-eq-PAGE_BYTES-clause-length : goal.returns-else-last-eq-PAGE_BYTES-clause-length
+returns-else-last-eq-PAGE_BYTES-clause-length c = search rules
