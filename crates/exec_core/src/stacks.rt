@@ -7,8 +7,8 @@ guest_space::specs::Pending::after_writes))]
 ghost use Rattle.std.specs.Prelude.{◌≡◌, ◌≢◌, ◌<◌, ℕ, IsTrue, Ok, false, slice_index};
 ghost use Rattle.exec_core.specs.Stacks.{push, pop, pusha, popa};
 ghost use Rattle.guest_space.specs.Registers.{with_registers};
-ghost use Rattle.insn_plan.specs.{Act.{done, value_of}, Looks.{CarriesOutBy}, Operands.{source}, Plan.{CarriesOut, after_plan, plan_result}};
-ghost use Rattle.insn_plan.specs.{Registers.{with_register}, Stack.{has_big_stack, pending_of_pushes, stack_item}};
+ghost use Rattle.insn_plan.specs.{Act.{done, value_of}, Looks.{CarriesOutBy}, Operands.{source}, Plan.{CarriesOut, after_plan}};
+ghost use Rattle.insn_plan.specs.{Plan.{plan_result}, Registers.{with_register}, Stack.{has_big_stack, pending_of_pushes, stack_item}};
 ghost use Rattle.insn_forms.specs.{Kinds.{is_width}, Shapes.{HasShape, shape_width}, declared.insn.Insn.{Insn}};
 
 use crate::arithmetic::{at_known_width, at_register};

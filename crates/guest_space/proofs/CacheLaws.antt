@@ -15,9 +15,9 @@ use Rattle.desc_table.proofs.RowLaws.{length-row_bytes}
 use Rattle.host_memory.specs.{Holds.{Holds}, Law.{walk_result}, Layout.{address_of}, View.{MachineView}, Records.{record_size}}
 use Rattle.host_memory.proofs.{Parts.{addresses_by, addresses_of}, WalkLaw.{walk_agrees}}
 use Rattle.page_tables.specs.{Walk.{walked, walk_end, fault, directory_entry, table_entry}, declared.entry.TheConstants.{TABLE_SPAN}}
-use Rattle.guest_space.specs.{declared.pages.CacheEntry.{CacheEntry}, Cache.{ends, Hit, cached_answer, Warm, empty_entry, entry_at, pages_in_all}}
-use Rattle.guest_space.specs.{declared.pages.TheConstants.{CACHE_SIZE}, Machines.{Processor, IsMachine, held_world}, Records.{record_place}}
-use Rattle.guest_space.specs.Transfer.{translated, with_places}
+use Rattle.guest_space.specs.{declared.pages.CacheEntry.{CacheEntry}, Cache.{ends, Hit, cached_answer, Warm, empty_entry, entry_at}}
+use Rattle.guest_space.specs.{Cache.{pages_in_all}, declared.pages.TheConstants.{CACHE_SIZE}, Machines.{Processor, IsMachine, held_world}}
+use Rattle.guest_space.specs.{Records.{record_place}, Transfer.{translated, with_places}}
 use Rattle.guest_space.proofs.{ArenaWrites.{with_arena, arena_has}, MemoryAlone.{same_places}, Machines.{AllBytes, machine_of}}
 use Rattle.guest_space.proofs.{Machines.{sound_blocks}, Puts.{store_bytes}, Runs.{can_write_run, run_all}}
 use Rattle.guest_space.proofs.WriteRuns.{places_keep_addresses}

@@ -15,9 +15,9 @@ use Rattle.client_world.specs.{declared.registers.Regs.{Regs}, Loading.{code_row
 use Rattle.client_world.specs.Selector.{is_null, row_of_selector}
 use Rattle.client_world.proofs.{PlaceLaws.{length-places_from, places_from-at}, SoundWrites.{at_bytes_of}}
 use Rattle.guest_space.specs.{Code.{one_byte, code_byte, code_from}, Transfer.{read_result, bytes_at, linear_access, fault_of}}
-use Rattle.guest_space.proofs.{Accesses.{loaded_linear, access_refused, code_base, code_goes_up, segment_part}, Runs.{AllTouch, all_touch, access_ends}}
 use Rattle.guest_space.specs.{declared.hidden_parts.Hidden.{Hidden}, HiddenParts.{found, is_data_with, part_in_row, part_of_selector}}
-use Rattle.guest_space.proofs.HiddenLaws.{down_bit, peel}
+use Rattle.guest_space.proofs.{Accesses.{loaded_linear, access_refused, code_base, code_goes_up, segment_part}, Runs.{AllTouch, all_touch}}
+use Rattle.guest_space.proofs.{Runs.{access_ends}, HiddenLaws.{down_bit, peel}}
 use Rattle.guest_ram.specs.Bytes.{AreBytes, region}
 use Rattle.guest_ram.proofs.PutLaws.{length-region, at_region}
 

@@ -1,8 +1,8 @@
 // The hidden parts of the segment registers.
 ghost use Rattle.std.specs.Prelude.{◌≡◌, ◌<◌, ◌^◌, IsTrue, Ok, false};
 ghost use Rattle.client_world.specs.{declared.registers.Mode.TheVariants.{Protected as protected}, declared.segments.SegReg.{SegReg}};
-ghost use Rattle.client_world.specs.declared.segments.SegReg.TheVariants.{Cs as cs};
-ghost use Rattle.client_world.specs.{Descriptor.{access_byte, is_within}, Segments.{selector}, Selector.{FitsRow}};
+ghost use Rattle.client_world.specs.{declared.segments.SegReg.TheVariants.{Cs as cs}, Descriptor.{access_byte, is_within}};
+ghost use Rattle.client_world.specs.{Segments.{selector}, Selector.{FitsRow}};
 ghost use Rattle.desc_table.specs.Rows.{HasRows, rows_from, rows_start};
 ghost use Rattle.guest_space.specs.HiddenParts.{all_found, base_within, is_data_with, number, part_in_row, part_of_selector};
 

@@ -1,10 +1,9 @@
 use Rattle.std.proofs.Common.{◌≡◌, ◌+◌, ◌++◌, ap, sym, ◌∙◌, append_assoc, arith}
 use Rattle.client_maker.specs.{Pieces.{next_number, number, chosen_piece, pieces}, Made.{entry_code}}
-use Rattle.client_maker.proofs.InTurn.{number_next, pieces_next}
-use Rattle.client_maker.proofs.made_code.Goals as goal
+use Rattle.client_maker.proofs.{InTurn.{number_next, pieces_next}, made_code.Goals.{loop-preserved as goal}}
 
 -- each turn adds one piece
-pub loop-preserved : goal.loop-preserved
+pub loop-preserved : goal
 loop-preserved c =
     let seed = c.args.seed in
     let k = c.loop.counter in

@@ -1,5 +1,4 @@
-use Rattle.std.proofs.Common.{rules}
-use Rattle.block_memory.proofs.blocks.base_of_pages.Goals as goal
+use Rattle.{std.proofs.Common.{rules}, block_memory.proofs.blocks.base_of_pages.Goals.{returns-then-pages-eq0 as goal}}
 
-pub returns-then-pages-eq0 : goal.returns-then-pages-eq0
+pub returns-then-pages-eq0 : goal
 returns-then-pages-eq0 c = search rules

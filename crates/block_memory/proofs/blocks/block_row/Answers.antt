@@ -1,5 +1,4 @@
-use Rattle.block_memory.proofs.BlockCalls.{row_read}
-use Rattle.block_memory.proofs.blocks.block_row.Goals as goal
+use Rattle.block_memory.proofs.{BlockCalls.{row_read}, blocks.block_row.Goals.{returns as goal}}
 
-pub returns : goal.returns
+pub returns : goal
 returns c = row_read c.args.ram.now c.args.place c.get32.result c.get32-2.result c.requires c.get32.ensures c.get32-2.ensures

@@ -1,5 +1,4 @@
-use Rattle.block_memory.proofs.BlockSteps.{can_give, is_mapped, page_removed, tables_there}
-use Rattle.std.proofs.Common.{◌+◌, rules}
+use Rattle.{block_memory.proofs.BlockSteps.{can_give, is_mapped, page_removed, tables_there}, std.proofs.Common.{◌+◌, rules}}
 use Rattle.block_memory.proofs.blocks.drop_page.Goals as goal
 
 pub unmap-frame-requires-clause-tables : goal.unmap-frame-requires-clause-tables

@@ -1,5 +1,4 @@
-use Rattle.std.proofs.Common.{arith, ◌≡◌}
-use Rattle.block_memory.proofs.BlockRuns.{extending, extending_in, extended_all, extended_more, next_page}
+use Rattle.{std.proofs.Common.{arith, ◌≡◌}, block_memory.proofs.BlockRuns.{extending, extending_in, extended_all, extended_more, next_page}}
 use Rattle.block_memory.proofs.blocks.extend_block.Goals as goal
 
 pub loop-n-init : goal.loop-n-init

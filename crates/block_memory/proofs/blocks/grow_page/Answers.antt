@@ -1,5 +1,4 @@
-use Rattle.std.proofs.Common.{refl}
-use Rattle.block_memory.proofs.BlockSteps.{can_map, frame_free, free_list, page_added}
+use Rattle.{std.proofs.Common.{refl}, block_memory.proofs.BlockSteps.{can_map, frame_free, free_list, page_added}}
 use Rattle.block_memory.proofs.blocks.grow_page.Goals as goal
 
 pub take_frame-requires-clause-list : goal.take_frame-requires-clause-list

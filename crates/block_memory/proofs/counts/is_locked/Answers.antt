@@ -1,5 +1,4 @@
-use Rattle.std.proofs.Common.{rules}
-use Rattle.block_memory.proofs.counts.is_locked.Goals as goal
+use Rattle.{std.proofs.Common.{rules}, block_memory.proofs.counts.is_locked.Goals.{returns as goal}}
 
-pub returns : goal.returns
+pub returns : goal
 returns c = search rules

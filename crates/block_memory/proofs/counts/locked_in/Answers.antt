@@ -1,6 +1,5 @@
 use Rattle.std.proofs.{Common.{◌≡◌, ◌≤◌, ◌∙◌, ◌+◌, ap, sym, arith, ℕ, inl, inr}, lemmas.Bool.{cases_eq, eq-eqb, ne_eqb}}
-use Rattle.std.specs.Prelude.{nat_eq, if◌then◌else◌}
-use Rattle.host_memory.specs.Layout.{locks_part}
+use Rattle.{std.specs.Prelude.{nat_eq, if◌then◌else◌}, host_memory.specs.Layout.{locks_part}}
 use Rattle.block_memory.proofs.{PageSums.{run_next, run_none, run_few}, PageWrites.{lock_read}}
 use Rattle.block_memory.proofs.counts.locked_in.Goals as goal
 

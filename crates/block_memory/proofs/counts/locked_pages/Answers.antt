@@ -1,8 +1,6 @@
-use Rattle.std.proofs.Common.{◌≡◌, ◌∙◌, ◌-◌, ◌/◌, ap, arith, ℕ}
-use Rattle.std.specs.List.{range_with_len}
+use Rattle.{std.proofs.Common.{◌≡◌, ◌∙◌, ◌-◌, ◌/◌, ap, arith, ℕ}, std.specs.List.{range_with_len}}
 use Rattle.client_world.specs.{declared.host_frames.TheConstants.{PAGE_SIZE}, declared.limits.TheConstants.{MAX_BLOCKS}}
-use Rattle.client_world.specs.declared.memory_map.TheConstants.{BLOCK_REGION}
-use Rattle.block_memory.specs.BlockSizes.{locked_of, locked_run}
+use Rattle.{client_world.specs.declared.memory_map.TheConstants.{BLOCK_REGION}, block_memory.specs.BlockSizes.{locked_of, locked_run}}
 use Rattle.host_memory.specs.Layout.{handles_part, locks_part, first_page_of}
 use Rattle.block_memory.proofs.{PageSums.{sum_next, locked_part, all_locked_is}, PageWrites.{row_pages_read, row_base_read}}
 use Rattle.guest_ram.specs.Count.{total}

@@ -1,7 +1,5 @@
-use Rattle.std.proofs.Common.{◌≡◌, ◌∙◌, ap, arith, ℕ}
-use Rattle.std.specs.List.{range_with_len}
-use Rattle.client_world.specs.declared.limits.TheConstants.{MAX_BLOCKS}
-use Rattle.guest_ram.specs.Count.{total}
+use Rattle.{std.proofs.Common.{◌≡◌, ◌∙◌, ap, arith, ℕ}, std.specs.List.{range_with_len}}
+use Rattle.{client_world.specs.declared.limits.TheConstants.{MAX_BLOCKS}, guest_ram.specs.Count.{total}}
 use Rattle.host_memory.specs.Layout.{handles_part, pages_of}
 use Rattle.block_memory.proofs.{PageSums.{sum_next, pages_part, all_pages_is}, PageWrites.{row_pages_read}}
 use Rattle.block_memory.proofs.counts.used_pages.Goals as goal

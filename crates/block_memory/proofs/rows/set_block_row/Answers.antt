@@ -1,5 +1,4 @@
-use Rattle.std.proofs.Common.{rules}
-use Rattle.block_memory.proofs.rows.set_block_row.Goals as goal
+use Rattle.{std.proofs.Common.{rules}, block_memory.proofs.rows.set_block_row.Goals.{returns as goal}}
 
-pub returns : goal.returns
+pub returns : goal
 returns c = search rules

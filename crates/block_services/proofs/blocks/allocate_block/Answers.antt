@@ -1,9 +1,7 @@
-use Rattle.std.proofs.Common.{subst, sym, ℕ, arith}
-use Rattle.block_memory.specs.BlockSizes.{CanMake}
-use Rattle.block_services.proofs.RoomLaws.{can_make, first_gap_is}
-use Rattle.block_services.proofs.blocks.allocate_block.Goals as goal
+use Rattle.{std.proofs.Common.{subst, sym, ℕ, arith}, block_memory.specs.BlockSizes.{CanMake}}
+use Rattle.block_services.proofs.{RoomLaws.{can_make, first_gap_is}, blocks.allocate_block.Goals.{block_make-requires-clause-room as goal}}
 
-pub block_make-requires-clause-room : goal.block_make-requires-clause-room
+pub block_make-requires-clause-room : goal
 block_make-requires-clause-room c =
     let w = c.args.m.now.world in
     let free = c.free_pages.ensures.free in

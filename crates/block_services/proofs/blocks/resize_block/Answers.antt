@@ -1,9 +1,7 @@
-use Rattle.std.proofs.Common.{sym, arith}
-use Rattle.client_world.specs.World.{block_at}
-use Rattle.block_services.proofs.RoomLaws.{can_size, seen_held}
-use Rattle.block_services.proofs.blocks.resize_block.Goals as goal
+use Rattle.{std.proofs.Common.{sym, arith}, client_world.specs.World.{block_at}}
+use Rattle.block_services.proofs.{RoomLaws.{can_size, seen_held}, blocks.resize_block.Goals.{block_size-requires-clause-room as goal}}
 
-pub block_size-requires-clause-room : goal.block_size-requires-clause-room
+pub block_size-requires-clause-room : goal
 block_size-requires-clause-room c =
     let w = c.args.m.now.world in
     let handle = c.si_di-handle.result in

@@ -1,7 +1,5 @@
-use Rattle.std.proofs.Common.{◌∙◌, sym, ◌+◌}
-use Rattle.client_world.specs.declared.limits.TheConstants.{MAX_BLOCKS}
-use Rattle.block_services.specs.Gaps.{block_in_way, is_in_way}
-use Rattle.service_rows.proofs.RunLaws.{index_found, index_missed, index_passed}
+use Rattle.{std.proofs.Common.{◌∙◌, sym, ◌+◌}, client_world.specs.declared.limits.TheConstants.{MAX_BLOCKS}}
+use Rattle.{block_services.specs.Gaps.{block_in_way, is_in_way}, service_rows.proofs.RunLaws.{index_found, index_missed, index_passed}}
 use Rattle.block_services.proofs.gaps.block_in_way.Goals as goal
 
 pub returns-then-is_in_way : goal.returns-then-is_in_way

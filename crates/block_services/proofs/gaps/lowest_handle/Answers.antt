@@ -1,7 +1,5 @@
-use Rattle.std.proofs.Common.{◌≡◌, ◌∙◌, sym, refl, ap, arith, rules, ◌+◌, true, false}
-use Rattle.std.specs.Option.{is_none}
-use Rattle.client_world.specs.{declared.limits.TheConstants.{MAX_BLOCKS}, World.{block_at}}
-use Rattle.block_services.specs.Gaps.{lowest_handle}
+use Rattle.{std.proofs.Common.{◌≡◌, ◌∙◌, sym, refl, ap, arith, rules, ◌+◌, true, false}, std.specs.Option.{is_none}}
+use Rattle.{client_world.specs.{declared.limits.TheConstants.{MAX_BLOCKS}, World.{block_at}}, block_services.specs.Gaps.{lowest_handle}}
 use Rattle.service_rows.proofs.RunLaws.{index_found, index_missed, index_passed}
 use Rattle.block_services.proofs.SpanLists.{seen_none, is_free, none_of}
 use Rattle.block_services.proofs.gaps.lowest_handle.Goals as goal

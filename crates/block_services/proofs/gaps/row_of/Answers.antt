@@ -1,5 +1,4 @@
-use Rattle.client_world.specs.World.{block_at}
-use Rattle.block_services.proofs.SpanLists.{row_fits, row_seen_as}
+use Rattle.{client_world.specs.World.{block_at}, block_services.proofs.SpanLists.{row_fits, row_seen_as}}
 use Rattle.block_services.proofs.gaps.row_of.Goals as goal
 
 pub returns-clause-from : goal.returns-clause-from

@@ -1,5 +1,4 @@
-use Rattle.block_services.proofs.RoomLaws.{stays}
-use Rattle.block_services.proofs.laws.a_block_that_shrinks_stays.Goals as goal
+use Rattle.block_services.proofs.{RoomLaws.{stays}, laws.a_block_that_shrinks_stays.Goals.{returns as goal}}
 
-pub returns : goal.returns
+pub returns : goal
 returns c = stays

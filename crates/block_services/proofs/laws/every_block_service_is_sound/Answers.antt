@@ -1,5 +1,4 @@
-use Rattle.block_services.proofs.ServiceLaws.{sound_service}
-use Rattle.block_services.proofs.laws.every_block_service_is_sound.Goals as goal
+use Rattle.block_services.proofs.{ServiceLaws.{sound_service}, laws.every_block_service_is_sound.Goals.{returns as goal}}
 
-pub returns : goal.returns
+pub returns : goal
 returns c = sound_service

@@ -1,5 +1,4 @@
-use Rattle.block_services.proofs.ServiceLaws.{kept_service}
-use Rattle.block_services.proofs.laws.every_block_service_keeps_the_rest.Goals as goal
+use Rattle.block_services.proofs.{ServiceLaws.{kept_service}, laws.every_block_service_keeps_the_rest.Goals.{returns as goal}}
 
-pub returns : goal.returns
+pub returns : goal
 returns c = kept_service

@@ -1,9 +1,7 @@
-use Rattle.std.proofs.Common.{◌∙◌, sym, arith}
-use Rattle.block_services.specs.Rows.{first_page, page_count}
-use Rattle.block_services.proofs.RoomLaws.{in_view}
-use Rattle.block_services.proofs.pages.relock_pages.Goals as goal
+use Rattle.{std.proofs.Common.{◌∙◌, sym, arith}, block_services.specs.Rows.{first_page, page_count}}
+use Rattle.block_services.proofs.{RoomLaws.{in_view}, pages.relock_pages.Goals.{set_pages-requires-clause-view as goal}}
 
-pub set_pages-requires-clause-view : goal.set_pages-requires-clause-view
+pub set_pages-requires-clause-view : goal
 set_pages-requires-clause-view c page from to =
     let w = c.args.m.now.world in
     let first = c.asked_run-first.ensures.first in

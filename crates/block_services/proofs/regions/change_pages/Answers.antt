@@ -1,7 +1,5 @@
-use Rattle.std.proofs.Common.{◌∙◌, sym, ap, ◌+◌, ◌-◌, List, Option}
-use Rattle.client_world.specs.World.{MemoryBlock, World}
-use Rattle.block_services.specs.Pages.{changed}
-use Rattle.block_services.proofs.PageLaws.{changed_done, changed_next, only_blocks}
+use Rattle.{std.proofs.Common.{◌∙◌, sym, ap, ◌+◌, ◌-◌, List, Option}, client_world.specs.World.{MemoryBlock, World}}
+use Rattle.{block_services.specs.Pages.{changed}, block_services.proofs.PageLaws.{changed_done, changed_next, only_blocks}}
 use Rattle.block_services.proofs.regions.change_pages.Goals as goal
 
 pub loop-page-preserved : goal.loop-page-preserved

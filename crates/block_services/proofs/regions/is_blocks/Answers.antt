@@ -1,5 +1,4 @@
-use Rattle.std.proofs.Common.{◌∙◌, arith, inl, inr}
-use Rattle.block_services.proofs.PageLaws.{no_page, page_of_block}
+use Rattle.{std.proofs.Common.{◌∙◌, arith, inl, inr}, block_services.proofs.PageLaws.{no_page, page_of_block}}
 use Rattle.block_services.proofs.regions.is_blocks.Goals as goal
 
 pub returns-then-page-clause-is : goal.returns-then-page-clause-is

@@ -1,7 +1,5 @@
-use Rattle.std.proofs.Common.{◌∙◌, sym, ap, ◌+◌, ◌-◌, List, Bool}
-use Rattle.client_world.specs.World.{World}
-use Rattle.block_services.specs.Pages.{with_pages}
-use Rattle.block_services.proofs.PageLaws.{only_pageable, set_done, set_next}
+use Rattle.{std.proofs.Common.{◌∙◌, sym, ap, ◌+◌, ◌-◌, List, Bool}, client_world.specs.World.{World}}
+use Rattle.{block_services.specs.Pages.{with_pages}, block_services.proofs.PageLaws.{only_pageable, set_done, set_next}}
 use Rattle.block_services.proofs.regions.set_pages.Goals as goal
 
 pub loop-page-preserved : goal.loop-page-preserved

@@ -1,6 +1,4 @@
-use Rattle.std.proofs.Common.{◌∙◌, sym, ap, ◌+◌}
-use Rattle.std.specs.Option.{is_some}
-use Rattle.block_services.specs.Pages.{page_answer, some_page}
+use Rattle.{std.proofs.Common.{◌∙◌, sym, ap, ◌+◌}, std.specs.Option.{is_some}, block_services.specs.Pages.{page_answer, some_page}}
 use Rattle.service_rows.proofs.RunLaws.{index_found, index_missed, index_passed}
 use Rattle.block_services.proofs.regions.some_page.Goals as goal
 

@@ -1,5 +1,4 @@
-use Rattle.std.proofs.Common.{rules}
-use Rattle.block_services.proofs.regions.touched_pages.Goals as goal
+use Rattle.{std.proofs.Common.{rules}, block_services.proofs.regions.touched_pages.Goals.{returns-clause-pages as goal}}
 
-pub returns-clause-pages : goal.returns-clause-pages
+pub returns-clause-pages : goal
 returns-clause-pages c = search rules

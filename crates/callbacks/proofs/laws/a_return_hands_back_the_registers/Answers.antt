@@ -1,5 +1,4 @@
-use Rattle.callbacks.proofs.SoundEntries.{has_left}
-use Rattle.callbacks.proofs.laws.a_return_hands_back_the_registers.Goals as goal
+use Rattle.callbacks.proofs.{SoundEntries.{has_left}, laws.a_return_hands_back_the_registers.Goals.{returns as goal}}
 
-pub returns : goal.returns
+pub returns : goal
 returns c = has_left

@@ -1,5 +1,4 @@
-use Rattle.callbacks.proofs.Started.{enter_pushes, leave_pops}
-use Rattle.callbacks.proofs.laws.every_callback_is_stacked.Goals as goal
+use Rattle.callbacks.proofs.{Started.{enter_pushes, leave_pops}, laws.every_callback_is_stacked.Goals.{returns as goal}}
 
-pub returns : goal.returns
+pub returns : goal
 returns c = record { enter = enter_pushes; leave = leave_pops }

@@ -1,6 +1,4 @@
-use Rattle.std.proofs.Common.{rules}
-use Rattle.callbacks.proofs.Served.{past_none}
-use Rattle.callbacks.proofs.services.addressed_slot.Goals as goal
+use Rattle.{std.proofs.Common.{rules}, callbacks.proofs.{Served.{past_none}, services.addressed_slot.Goals.{returns-clause-slot as goal}}}
 
-pub returns-clause-slot : goal.returns-clause-slot
+pub returns-clause-slot : goal
 returns-clause-slot c = search (rules, past_none)

@@ -1,9 +1,6 @@
-use Rattle.std.proofs.Common.{◌≡◌, ◌∙◌, sym, ap, rules, true, false}
-use Rattle.std.specs.Option.{is_none}
-use Rattle.client_world.specs.declared.limits.TheConstants.{CALLBACKS}
-use Rattle.callbacks.specs.Services.{free_slot}
-use Rattle.service_rows.proofs.RunLaws.{index_found, index_missed, index_passed}
-use Rattle.callbacks.proofs.Served.{is_free}
+use Rattle.{std.proofs.Common.{◌≡◌, ◌∙◌, sym, ap, rules, true, false}, std.specs.Option.{is_none}}
+use Rattle.{client_world.specs.declared.limits.TheConstants.{CALLBACKS}, callbacks.specs.Services.{free_slot}}
+use Rattle.{service_rows.proofs.RunLaws.{index_found, index_missed, index_passed}, callbacks.proofs.Served.{is_free}}
 use Rattle.callbacks.proofs.services.free_slot.Goals as goal
 
 pub returns-then-is_none-clause-lowest : goal.returns-then-is_none-clause-lowest

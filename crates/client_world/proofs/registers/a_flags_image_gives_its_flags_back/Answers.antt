@@ -1,5 +1,4 @@
-use Rattle.client_world.proofs.FlagBits.{flags-back, interrupt-back}
-use Rattle.client_world.proofs.registers.a_flags_image_gives_its_flags_back.Goals as goal
+use Rattle.client_world.proofs.{FlagBits.{flags-back, interrupt-back}, registers.a_flags_image_gives_its_flags_back.Goals.{returns as goal}}
 
-pub returns : goal.returns
+pub returns : goal
 returns c = record { flags = flags-back; interrupt = interrupt-back }

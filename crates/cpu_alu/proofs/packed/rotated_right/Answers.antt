@@ -1,5 +1,4 @@
-use Rattle.std.proofs.Common.{◌<◌, ◌-◌, ◌%◌, ◌^◌, ◌∙◌, ap, refl, arith}
-use Rattle.cpu_alu.specs.{Shifts.{bits_moved}, Packed.{turned}}
+use Rattle.{std.proofs.Common.{◌<◌, ◌-◌, ◌%◌, ◌^◌, ◌∙◌, ap, refl, arith}, cpu_alu.specs.{Shifts.{bits_moved}, Packed.{turned}}}
 use Rattle.cpu_alu.proofs.Rotates.{ror_bits, IsWidth-pos}
 use Rattle.cpu_alu.proofs.packed.rotated_right.Goals as goal
 

@@ -1,9 +1,7 @@
-use Rattle.std.proofs.Common.{◌+◌, ◌-◌, ◌%◌, ◌∙◌, ap}
-use Rattle.cpu_alu.specs.Packed.{from_above, turned}
-use Rattle.cpu_alu.proofs.Rotates.{rcr_bits}
-use Rattle.cpu_alu.proofs.packed.rotated_right_through_carry.Goals as goal
+use Rattle.{std.proofs.Common.{◌+◌, ◌-◌, ◌%◌, ◌∙◌, ap}, cpu_alu.specs.Packed.{from_above, turned}}
+use Rattle.cpu_alu.proofs.{Rotates.{rcr_bits}, packed.rotated_right_through_carry.Goals.{returns as goal}}
 
-pub returns : goal.returns
+pub returns : goal
 returns g c =
     let count = g.row.W + 1 - c.args.count % (g.row.W + 1) in
     let turned_word = c.turn.ensures.value ∙ ap (λ v. turned (g.row.W + 1) v count) c.pack_above.ensures.value in

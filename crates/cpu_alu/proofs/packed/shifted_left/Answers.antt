@@ -1,9 +1,7 @@
-use Rattle.std.proofs.{Common.{◌*◌, ◌^◌, ◌∙◌, ap, arith}, lemmas.Nat.{shl_whole}}
-use Rattle.cpu_alu.specs.Packed.{from_above}
-use Rattle.cpu_alu.proofs.Moves.{shl_bits, double_width}
-use Rattle.cpu_alu.proofs.packed.shifted_left.Goals as goal
+use Rattle.{std.proofs.{Common.{◌*◌, ◌^◌, ◌∙◌, ap, arith}, lemmas.Nat.{shl_whole}}, cpu_alu.specs.Packed.{from_above}}
+use Rattle.cpu_alu.proofs.{Moves.{shl_bits, double_width}, packed.shifted_left.Goals.{returns as goal}}
 
-pub returns : goal.returns
+pub returns : goal
 returns g c =
     let most = double_width g.row.W c.requires.width in
     let exact = shl_whole c.pack_above.result 33 c.args.count 64 (omega arith) (omega arith) in

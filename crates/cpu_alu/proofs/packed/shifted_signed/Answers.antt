@@ -1,9 +1,7 @@
-use Rattle.std.proofs.Common.{◌∙◌, ap}
-use Rattle.cpu_alu.specs.Packed.{from_below, sign_shifted}
-use Rattle.cpu_alu.proofs.Moves.{sar_bits}
-use Rattle.cpu_alu.proofs.packed.shifted_signed.Goals as goal
+use Rattle.{std.proofs.Common.{◌∙◌, ap}, cpu_alu.specs.Packed.{from_below, sign_shifted}}
+use Rattle.cpu_alu.proofs.{Moves.{sar_bits}, packed.shifted_signed.Goals.{returns as goal}}
 
-pub returns : goal.returns
+pub returns : goal
 returns g c =
     let word = c.pack_below.ensures.value in
     let moved = c.shift_signed.ensures.value ∙ ap (λ v. sign_shifted g.row.W v c.args.count) word in

@@ -1,6 +1,5 @@
 use Rattle.std.proofs.{Common.{◌<◌, ◌-◌, ◌%◌, ◌^◌, refl, arith}, lemmas.Nat.{one_shl, shl_whole, mod_below, pow_pos, pow_below}}
-use Rattle.cpu_alu.specs.Packed.{turned}
-use Rattle.cpu_alu.proofs.Turns.{turned_below_all}
+use Rattle.{cpu_alu.specs.Packed.{turned}, cpu_alu.proofs.Turns.{turned_below_all}}
 use Rattle.cpu_alu.proofs.packed.turn.Goals as goal
 
 pub overflow_add-result : goal.overflow_add-result

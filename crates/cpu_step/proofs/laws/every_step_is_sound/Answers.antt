@@ -1,5 +1,4 @@
-use Rattle.cpu_step.proofs.SoundSteps.{sound_step}
-use Rattle.cpu_step.proofs.laws.every_step_is_sound.Goals as goal
+use Rattle.cpu_step.proofs.{SoundSteps.{sound_step}, laws.every_step_is_sound.Goals.{returns as goal}}
 
-pub returns : goal.returns
+pub returns : goal
 returns c = sound_step

@@ -1,5 +1,4 @@
-use Rattle.cpu_step.proofs.Held.{touched_held}
-use Rattle.cpu_step.proofs.laws.every_touched_place_is_held.Goals as goal
+use Rattle.cpu_step.proofs.{Held.{touched_held}, laws.every_touched_place_is_held.Goals.{returns as goal}}
 
-pub returns : goal.returns
+pub returns : goal
 returns c = touched_held

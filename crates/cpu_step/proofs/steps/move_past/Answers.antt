@@ -1,5 +1,4 @@
-use Rattle.std.proofs.Common.{rules}
-use Rattle.cpu_step.proofs.steps.move_past.Goals as goal
+use Rattle.{std.proofs.Common.{rules}, cpu_step.proofs.steps.move_past.Goals.{returns as goal}}
 
-pub returns : goal.returns
+pub returns : goal
 returns c = search rules

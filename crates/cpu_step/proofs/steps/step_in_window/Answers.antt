@@ -1,8 +1,5 @@
-use Rattle.std.proofs.Common.{refl, sym, subst}
-use Rattle.client_world.specs.CodeWords.{code_bytes}
-use Rattle.insn_plan.specs.Plan.{Follows}
-use Rattle.cpu_step.specs.Step.{has_big_code}
-use Rattle.cpu_step.proofs.{KnownSteps.{known_step}, SoundSteps.{window_after}}
+use Rattle.{std.proofs.Common.{refl, sym, subst}, client_world.specs.CodeWords.{code_bytes}, insn_plan.specs.Plan.{Follows}}
+use Rattle.{cpu_step.specs.Step.{has_big_code}, cpu_step.proofs.{KnownSteps.{known_step}, SoundSteps.{window_after}}}
 use Rattle.cpu_step.proofs.steps.step_in_window.Goals as goal
 
 pub returns-in-Some-clause-window : goal.returns-in-Some-clause-window

@@ -1,5 +1,4 @@
-use Rattle.std.proofs.Common.{rules}
-use Rattle.desc_services.proofs.freeing.is_freeable_origin.Goals as goal
+use Rattle.{std.proofs.Common.{rules}, desc_services.proofs.freeing.is_freeable_origin.Goals.{returns-in-Own as goal}}
 
-pub returns-in-Own : goal.returns-in-Own
+pub returns-in-Own : goal
 returns-in-Own c = search rules

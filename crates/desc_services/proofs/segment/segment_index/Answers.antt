@@ -1,7 +1,6 @@
 use Rattle.std.proofs.Common.{◌∙◌, sym, ap, ℕ}
 use Rattle.client_world.specs.{declared.host_frames.TheConstants.{DESCRIPTORS}, Selector.{Row, row_at_index}}
-use Rattle.desc_services.specs.Rows.{is_segment_row, segment_index}
-use Rattle.service_rows.proofs.RunLaws.{index_found, index_missed, index_passed}
+use Rattle.{desc_services.specs.Rows.{is_segment_row, segment_index}, service_rows.proofs.RunLaws.{index_found, index_missed, index_passed}}
 use Rattle.desc_services.proofs.segment.segment_index.Goals as goal
 
 pub returns-then-is_segment_row-clause-index : goal.returns-then-is_segment_row-clause-index

@@ -1,6 +1,4 @@
-use Rattle.std.proofs.Common.{arith, inl, inr, refl, sym, ◌∙◌, ap}
-use Rattle.std.specs.Option.{is_some}
-use Rattle.desc_table.specs.Rows.{IsFreeRun}
+use Rattle.{std.proofs.Common.{arith, inl, inr, refl, sym, ◌∙◌, ap}, std.specs.Option.{is_some}, desc_table.specs.Rows.{IsFreeRun}}
 use Rattle.desc_table.proofs.{RunLaws.{free_more, none_below_taken, none_at_all}, rows.free_run.Goals.{then-is_some}}
 use Rattle.desc_table.proofs.rows.free_run.Goals.{else-is_some+else-index-start}
 use Rattle.desc_table.proofs.rows.free_run.Goals as goal

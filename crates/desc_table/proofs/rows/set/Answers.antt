@@ -1,5 +1,4 @@
-use Rattle.std.proofs.Common.{arith, ◌≡◌, ◌∙◌, ap, List, ℕ}
-use Rattle.guest_ram.specs.Bytes.{put}
+use Rattle.{std.proofs.Common.{arith, ◌≡◌, ◌∙◌, ap, List, ℕ}, guest_ram.specs.Bytes.{put}}
 use Rattle.desc_table.specs.Rows.{row_at, row_bytes, row_address, rows_from, rows_start}
 use Rattle.desc_table.proofs.RowLaws.{row_at-put, row_at-put_other, rows_from-put}
 use Rattle.desc_table.proofs.rows.set.Goals as goal

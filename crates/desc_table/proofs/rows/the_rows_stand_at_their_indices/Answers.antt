@@ -1,6 +1,5 @@
 use Rattle.std.proofs.{Common.{arith, ◌<◌, ◌∙◌, ap, length, Some, None}, lemmas.Option.{slice_get-get_or}}
-use Rattle.desc_table.specs.Rows.{rows_from, rows_start}
-use Rattle.client_world.specs.Selector.{Row}
+use Rattle.{desc_table.specs.Rows.{rows_from, rows_start}, client_world.specs.Selector.{Row}}
 use Rattle.desc_table.proofs.RowLaws.{length-rows_from, at_rows_from}
 use Rattle.desc_table.proofs.rows.the_rows_stand_at_their_indices.Goals as goal
 

@@ -1,5 +1,4 @@
-use Rattle.std.proofs.Common.{◌∙◌, ap, refl, arith, ℕ}
-use Rattle.client_world.specs.declared.dos_memory.DosEntry.{DosEntry}
+use Rattle.{std.proofs.Common.{◌∙◌, ap, refl, arith, ℕ}, client_world.specs.declared.dos_memory.DosEntry.{DosEntry}}
 use Rattle.dos_blocks.specs.Blocks.{missing_entry, block_state, new_descriptor, run_of_block, split}
 use Rattle.dos_blocks.proofs.{BlockRuns.{can_give_block, can_put}, Searches.{found_fit}, Splicing.{entry_within}}
 use Rattle.dos_blocks.proofs.allocating.dos_alloc.Goals as goal

@@ -1,5 +1,4 @@
-use Rattle.std.proofs.Common.{◌∙◌, sym, arith}
-use Rattle.dos_blocks.proofs.Searches.{fit_here, fit_next, fit_none}
+use Rattle.{std.proofs.Common.{◌∙◌, sym, arith}, dos_blocks.proofs.Searches.{fit_here, fit_next, fit_none}}
 use Rattle.dos_blocks.proofs.finding.first_fit.Goals as goal
 
 pub returns-then-fits-clause-found : goal.returns-then-fits-clause-found

@@ -1,5 +1,4 @@
-use Rattle.std.proofs.Common.{◌+◌, ◌∙◌, sym, ap, arith, ℕ, drop, max}
-use Rattle.dos_blocks.specs.Blocks.{largest}
+use Rattle.{std.proofs.Common.{◌+◌, ◌∙◌, sym, ap, arith, ℕ, drop, max}, dos_blocks.specs.Blocks.{largest}}
 use Rattle.dos_blocks.proofs.Searches.{largest_next, largest_none}
 use Rattle.dos_blocks.proofs.finding.largest.Goals as goal
 

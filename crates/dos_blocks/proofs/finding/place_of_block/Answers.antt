@@ -1,5 +1,4 @@
-use Rattle.std.proofs.Common.{◌∙◌, sym, arith}
-use Rattle.dos_blocks.proofs.Searches.{block_here, block_next, block_none}
+use Rattle.{std.proofs.Common.{◌∙◌, sym, arith}, dos_blocks.proofs.Searches.{block_here, block_next, block_none}}
 use Rattle.dos_blocks.proofs.finding.place_of_block.Goals as goal
 
 pub returns-then-starts_at-clause-found : goal.returns-then-starts_at-clause-found

@@ -1,5 +1,4 @@
-use Rattle.std.proofs.Common.{◌+◌, ◌-◌, ◌∙◌, ap, refl, arith, ℕ, [], ◌∷◌}
-use Rattle.client_world.specs.declared.dos_memory.DosEntry.{DosEntry}
+use Rattle.{std.proofs.Common.{◌+◌, ◌-◌, ◌∙◌, ap, refl, arith, ℕ, [], ◌∷◌}, client_world.specs.declared.dos_memory.DosEntry.{DosEntry}}
 use Rattle.dos_blocks.specs.Blocks.{missing_entry, first_descriptor, free_entries_after, free_before, joined_entry, run_of_block}
 use Rattle.dos_blocks.proofs.{BlockRuns.{can_free_block, can_put}, Searches.{found_block}, Splicing.{entry_within}}
 use Rattle.dos_blocks.proofs.freeing.dos_free.Goals as goal

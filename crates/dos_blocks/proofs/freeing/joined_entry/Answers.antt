@@ -1,7 +1,5 @@
-use Rattle.std.proofs.Common.{ap, arith}
-use Rattle.client_world.specs.declared.dos_memory.DosEntry.{DosEntry}
-use Rattle.dos_blocks.specs.Blocks.{missing_entry}
-use Rattle.dos_blocks.proofs.RunPuts.{has_room}
+use Rattle.{std.proofs.Common.{ap, arith}, client_world.specs.declared.dos_memory.DosEntry.{DosEntry}}
+use Rattle.{dos_blocks.specs.Blocks.{missing_entry}, dos_blocks.proofs.RunPuts.{has_room}}
 use Rattle.dos_blocks.proofs.freeing.joined_entry.Goals as goal
 
 pub overflow_sub-result : goal.overflow_sub-result

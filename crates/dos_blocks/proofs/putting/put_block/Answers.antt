@@ -1,5 +1,4 @@
-use Rattle.std.proofs.Common.{◌∙◌}
-use Rattle.dos_blocks.proofs.BlockRuns.{made_is, plain_is, put_made, put_plain}
+use Rattle.{std.proofs.Common.{◌∙◌}, dos_blocks.proofs.BlockRuns.{made_is, plain_is, put_made, put_plain}}
 use Rattle.dos_blocks.proofs.putting.put_block.Goals as goal
 
 pub arena_put_dpmi-requires : goal.arena_put_dpmi-requires

@@ -1,7 +1,5 @@
-use Rattle.std.proofs.Common.{ap, arith, true}
-use Rattle.client_world.specs.declared.dos_memory.DosEntry.{DosEntry}
-use Rattle.dos_blocks.specs.Blocks.{missing_entry}
-use Rattle.dos_blocks.proofs.{Searches.{found_block}, Splicing.{entry_within}}
+use Rattle.{std.proofs.Common.{ap, arith, true}, client_world.specs.declared.dos_memory.DosEntry.{DosEntry}}
+use Rattle.{dos_blocks.specs.Blocks.{missing_entry}, dos_blocks.proofs.{Searches.{found_block}, Splicing.{entry_within}}}
 use Rattle.dos_blocks.proofs.resizing.can_resize.Goals as goal
 
 pub arena-entry-requires : goal.arena-entry-requires

@@ -1,5 +1,4 @@
-use Rattle.std.proofs.Common.{◌≡◌, ◌+◌, ◌∙◌, ap, refl, arith, ℕ}
-use Rattle.client_world.specs.declared.dos_memory.DosEntry.{DosEntry}
+use Rattle.{std.proofs.Common.{◌≡◌, ◌+◌, ◌∙◌, ap, refl, arith, ℕ}, client_world.specs.declared.dos_memory.DosEntry.{DosEntry}}
 use Rattle.dos_blocks.specs.Blocks.{missing_entry, block_state, first_descriptor, split, room_after, free_entries_after, greatest_size}
 use Rattle.dos_blocks.specs.Blocks.{run_of_block}
 use Rattle.dos_blocks.proofs.{BlockRuns.{can_put, can_resize_block}, RunPuts.{has_room}, Searches.{found_block}, Splicing.{entry_within}}

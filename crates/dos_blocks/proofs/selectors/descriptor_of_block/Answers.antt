@@ -1,7 +1,5 @@
-use Rattle.std.proofs.Common.{◌∙◌, sym}
-use Rattle.client_world.specs.declared.host_frames.TheConstants.{DESCRIPTORS}
-use Rattle.dos_blocks.specs.Blocks.{descriptor_of_block}
-use Rattle.service_rows.proofs.RunLaws.{index_found, index_missed, index_passed}
+use Rattle.{std.proofs.Common.{◌∙◌, sym}, client_world.specs.declared.host_frames.TheConstants.{DESCRIPTORS}}
+use Rattle.{dos_blocks.specs.Blocks.{descriptor_of_block}, service_rows.proofs.RunLaws.{index_found, index_missed, index_passed}}
 use Rattle.dos_blocks.proofs.BlockRuns.{is_of_block}
 use Rattle.dos_blocks.proofs.selectors.descriptor_of_block.Goals as goal
 

@@ -1,5 +1,4 @@
-use Rattle.std.proofs.Common.{◌∙◌, arith, sym}
-use Rattle.dos_blocks.proofs.SelectorLaws.{free_next, taken_run, whole_run}
+use Rattle.{std.proofs.Common.{◌∙◌, arith, sym}, dos_blocks.proofs.SelectorLaws.{free_next, taken_run, whole_run}}
 use Rattle.dos_blocks.proofs.selectors.is_free_run.Goals as goal
 
 pub returns-then-is_some : goal.returns-then-is_some

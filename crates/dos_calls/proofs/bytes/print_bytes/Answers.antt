@@ -1,5 +1,4 @@
-use Rattle.std.proofs.Common.{◌+◌, ◌-◌, ◌∙◌, sym, ap, arith, ℕ, ◌∷◌}
-use Rattle.dos_calls.specs.DosBytes.{bytes_from}
+use Rattle.{std.proofs.Common.{◌+◌, ◌-◌, ◌∙◌, sym, ap, arith, ℕ, ◌∷◌}, dos_calls.specs.DosBytes.{bytes_from}}
 use Rattle.dos_calls.proofs.{ConsoleLaws.{nothing_added, byte_added, byte_refused, all_added}, ByteLaws.{bytes_all, bytes_next, bytes_none}}
 use Rattle.dos_calls.proofs.bytes.print_bytes.Goals as goal
 

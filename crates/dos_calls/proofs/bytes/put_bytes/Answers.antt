@@ -1,7 +1,5 @@
-use Rattle.std.proofs.Common.{◌+◌, ◌∙◌, ℕ, List, drop, sym, ap, arith}
-use Rattle.client_world.specs.World.{World}
-use Rattle.dos_calls.specs.DosBytes.{with_dos_bytes_at}
-use Rattle.dos_calls.proofs.ByteLaws.{put_next, put_none, only_bytes}
+use Rattle.{std.proofs.Common.{◌+◌, ◌∙◌, ℕ, List, drop, sym, ap, arith}, client_world.specs.World.{World}}
+use Rattle.{dos_calls.specs.DosBytes.{with_dos_bytes_at}, dos_calls.proofs.ByteLaws.{put_next, put_none, only_bytes}}
 use Rattle.dos_calls.proofs.bytes.put_bytes.Goals as goal
 
 pub loop-byte-preserved : goal.loop-byte-preserved

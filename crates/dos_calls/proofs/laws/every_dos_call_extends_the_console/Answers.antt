@@ -1,5 +1,4 @@
-use Rattle.dos_calls.proofs.LeftCalls.{call_leaves}
-use Rattle.dos_calls.proofs.laws.every_dos_call_extends_the_console.Goals as goal
+use Rattle.dos_calls.proofs.{LeftCalls.{call_leaves}, laws.every_dos_call_extends_the_console.Goals.{returns as goal}}
 
-pub returns : goal.returns
+pub returns : goal
 returns c = λ s. (call_leaves s).console

@@ -1,5 +1,4 @@
-use Rattle.dos_calls.proofs.LeftCalls.{call_leaves}
-use Rattle.dos_calls.proofs.laws.every_end_of_a_dos_call_leaves_the_machine.Goals as goal
+use Rattle.dos_calls.proofs.{LeftCalls.{call_leaves}, laws.every_end_of_a_dos_call_leaves_the_machine.Goals.{returns as goal}}
 
-pub returns : goal.returns
+pub returns : goal
 returns c = record { machine = λ s. (call_leaves s).machine; outside = λ s. (call_leaves s).outside }

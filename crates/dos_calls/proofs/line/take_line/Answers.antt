@@ -1,5 +1,4 @@
-use Rattle.std.proofs.Common.{◌∙◌, ◌-◌, ℕ, List, take, true, false, ap, sym}
-use Rattle.dos_calls.specs.Calls.{CallState}
+use Rattle.{std.proofs.Common.{◌∙◌, ◌-◌, ℕ, List, take, true, false, ap, sym}, dos_calls.specs.Calls.{CallState}}
 use Rattle.dos_calls.proofs.ConsoleLaws.{line_goes}
 use Rattle.dos_calls.proofs.line.take_line.Goals as goal
 

@@ -1,5 +1,4 @@
-use Rattle.std.proofs.Common.{rules}
-use Rattle.dos_calls.proofs.registers.refuse.Goals as goal
+use Rattle.{std.proofs.Common.{rules}, dos_calls.proofs.registers.refuse.Goals.{returns as goal}}
 
-pub returns : goal.returns
+pub returns : goal
 returns c = search rules

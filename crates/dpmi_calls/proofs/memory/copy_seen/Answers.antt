@@ -1,5 +1,4 @@
-use Rattle.std.proofs.Common.{rules}
-use Rattle.dpmi_calls.proofs.memory.copy_seen.Goals as goal
+use Rattle.{std.proofs.Common.{rules}, dpmi_calls.proofs.memory.copy_seen.Goals.{loop-i-preserved as goal}}
 
-pub loop-i-preserved : goal.loop-i-preserved
+pub loop-i-preserved : goal
 loop-i-preserved c = search rules

@@ -1,5 +1,4 @@
-use Rattle.std.proofs.Common.{arith, ◌∙◌, sym, ap, false, slice_index, ℕ, List}
-use Rattle.dpmi_calls.proofs.Bytes.{not_there, there}
+use Rattle.{std.proofs.Common.{arith, ◌∙◌, sym, ap, false, slice_index, ℕ, List}, dpmi_calls.proofs.Bytes.{not_there, there}}
 use Rattle.guest_space.proofs.Runs.{translated_by_walk, translated_by_failure, translated_ends, translated_fails}
 use Rattle.host_memory.proofs.HostTables.{tables_inside}
 use Rattle.dpmi_calls.proofs.memory.seen.Goals as goal

@@ -1,5 +1,4 @@
-use Rattle.std.proofs.Common.{rules}
-use Rattle.dpmi_calls.proofs.run.timer_of.Goals as goal
+use Rattle.{std.proofs.Common.{rules}, dpmi_calls.proofs.run.timer_of.Goals.{returns-in-Some-clause-every as goal}}
 
-pub returns-in-Some-clause-every : goal.returns-in-Some-clause-every
+pub returns-in-Some-clause-every : goal
 returns-in-Some-clause-every c = search rules

@@ -1,5 +1,4 @@
-use Rattle.std.proofs.Common.{rules}
-use Rattle.dpmi_calls.proofs.state.state_of.Goals as goal
+use Rattle.{std.proofs.Common.{rules}, dpmi_calls.proofs.state.state_of.Goals.{returns as goal}}
 
-pub returns : goal.returns
+pub returns : goal
 returns c = search rules

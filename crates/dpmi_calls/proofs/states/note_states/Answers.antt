@@ -2,8 +2,7 @@ use Rattle.std.proofs.{Common.{arith, ◌∙◌, ◌≡◌, ap, inl, length, ref
 use Rattle.client_world.specs.World.{HostWorld}
 use Rattle.dpmi_calls.specs.{Clients.{given}, Memory.{seen}, Turns.{host_of}, States.{IsState}, declared.start.Client.{Client}}
 use Rattle.dpmi_calls.proofs.{Bytes.{one_more_row, room_of_row}, RowLists.{descends, one_more_state, still_in_order, still_small}}
-use Rattle.dpmi_calls.proofs.Starts.{host_is}
-use Rattle.host_memory.specs.View.{MachineView}
+use Rattle.{dpmi_calls.proofs.Starts.{host_is}, host_memory.specs.View.{MachineView}}
 use Rattle.dpmi_calls.proofs.states.note_states.Goals as goal
 
 pub loop-i-init : goal.loop-i-init

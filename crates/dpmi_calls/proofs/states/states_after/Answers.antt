@@ -1,5 +1,4 @@
-use Rattle.std.proofs.Common.{arith, inl, inr, refl, subst, sym}
-use Rattle.std.specs.{Prelude.{IsSome}, declared.option.Option.{Option}}
+use Rattle.{std.proofs.Common.{arith, inl, inr, refl, subst, sym}, std.specs.{Prelude.{IsSome}, declared.option.Option.{Option}}}
 use Rattle.dpmi_calls.proofs.states.states_after.Goals.{then-rows-turns-via-then-rows-turns}
 use Rattle.dpmi_calls.proofs.{states.states_after.Goals.{then-rows-turns-via-else-rows-turns+then-not-is_product}, Results.{of_err, of_ok}}
 use Rattle.dpmi_calls.proofs.Results.{on_ok}

@@ -1,5 +1,4 @@
-use Rattle.std.proofs.Common.{rules}
-use Rattle.dpmi_calls.proofs.stops.next_last.Goals as goal
+use Rattle.{std.proofs.Common.{rules}, dpmi_calls.proofs.stops.next_last.Goals.{returns-in-Some-clause-last as goal}}
 
-pub returns-in-Some-clause-last : goal.returns-in-Some-clause-last
+pub returns-in-Some-clause-last : goal
 returns-in-Some-clause-last c = search rules

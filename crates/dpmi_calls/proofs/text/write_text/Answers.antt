@@ -1,6 +1,5 @@
 use Rattle.std.proofs.Common.{rules}
-use Rattle.dpmi_calls.proofs.Texts.{longer}
-use Rattle.dpmi_calls.proofs.text.write_text.Goals as goal
+use Rattle.dpmi_calls.proofs.{Texts.{longer}, text.write_text.Goals.{returns-then-count-most-clause-room as goal}}
 
-pub returns-then-count-most-clause-room : goal.returns-then-count-most-clause-room
+pub returns-then-count-most-clause-room : goal
 returns-then-count-most-clause-room c = search (rules, longer)

@@ -1,5 +1,4 @@
-use Rattle.std.proofs.Common.{arith}
-use Rattle.dpmi_calls.specs.{Memory.{seen}, Stops.{is_changed}}
+use Rattle.{std.proofs.Common.{arith}, dpmi_calls.specs.{Memory.{seen}, Stops.{is_changed}}}
 use Rattle.dpmi_calls.proofs.Places.{differs, found, not_found}
 use Rattle.dpmi_calls.proofs.wanted.first_change.Goals as goal
 

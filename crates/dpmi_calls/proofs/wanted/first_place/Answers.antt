@@ -1,5 +1,4 @@
-use Rattle.std.proofs.Common.{arith, nat_eq}
-use Rattle.dpmi_calls.proofs.Places.{found, not_found}
+use Rattle.{std.proofs.Common.{arith, nat_eq}, dpmi_calls.proofs.Places.{found, not_found}}
 use Rattle.dpmi_calls.proofs.wanted.first_place.Goals as goal
 
 pub returns-then-places-i : goal.returns-then-places-i

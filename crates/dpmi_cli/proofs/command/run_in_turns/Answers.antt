@@ -1,6 +1,4 @@
-use Rattle.std.proofs.Common.{ap, ◌∙◌}
-use Rattle.std.specs.Prelude.{None, max}
-use Rattle.dpmi_cli.specs.Answer.{run_status}
+use Rattle.{std.proofs.Common.{ap, ◌∙◌}, std.specs.Prelude.{None, max}, dpmi_cli.specs.Answer.{run_status}}
 use Rattle.dpmi_cli.proofs.RunAnswers.{gives_pair, gives_pair_cut}
 use Rattle.dpmi_cli.proofs.command.run_in_turns.Goals as goal
 

@@ -1,5 +1,4 @@
-use Rattle.std.specs.Prelude.{None}
-use Rattle.dpmi_cli.proofs.RunAnswers.{gives_summary, gives_summary_cut}
+use Rattle.{std.specs.Prelude.{None}, dpmi_cli.proofs.RunAnswers.{gives_summary, gives_summary_cut}}
 use Rattle.dpmi_cli.proofs.command.run_made_client.Goals as goal
 
 pub returns-in-Ok-clause-answers : goal.returns-in-Ok-clause-answers

@@ -1,12 +1,8 @@
-use Rattle.std.specs.Prelude.{None, Some}
-use Rattle.client_world.specs.WatchWorld.{host_without_watches}
-use Rattle.timer_run.specs.Rounds.{timed_rounds}
-use Rattle.watch_run.specs.Turn.{turns_with_watchpoints}
-use Rattle.dpmi_cli.specs.Laws.{RunKeepsTheLaws, seen_run, seen_timed_run}
-use Rattle.dpmi_cli.proofs.RunAnswers.{keeps_the_laws}
-use Rattle.dpmi_cli.proofs.laws.every_run_keeps_the_laws.Goals as goal
+use Rattle.{std.specs.Prelude.{None, Some}, client_world.specs.WatchWorld.{host_without_watches}, timer_run.specs.Rounds.{timed_rounds}}
+use Rattle.{watch_run.specs.Turn.{turns_with_watchpoints}, dpmi_cli.specs.Laws.{RunKeepsTheLaws, seen_run, seen_timed_run}}
+use Rattle.dpmi_cli.proofs.{RunAnswers.{keeps_the_laws}, laws.every_run_keeps_the_laws.Goals.{returns as goal}}
 
-pub returns : goal.returns
+pub returns : goal
 returns c = λ w timer sound keys.
     let order = c.nested_calls_return_in_order.ensures in
     elim timer as (λ t. RunKeepsTheLaws w t) [

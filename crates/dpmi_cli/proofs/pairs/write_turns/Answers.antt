@@ -1,7 +1,5 @@
-use Rattle.std.proofs.Common.{ap}
-use Rattle.dpmi_io.proofs.Output.{puts_cut, puts_text, puts_then}
-use Rattle.pair_run.specs.declared.lines.Letter.TheVariants.{A, B}
-use Rattle.dpmi_cli.specs.Pairs.{client_part}
+use Rattle.{std.proofs.Common.{ap}, dpmi_io.proofs.Output.{puts_cut, puts_text, puts_then}}
+use Rattle.{pair_run.specs.declared.lines.Letter.TheVariants.{A, B}, dpmi_cli.specs.Pairs.{client_part}}
 use Rattle.dpmi_cli.proofs.RunAnswers.{first, run_ended, slices_put, when_ok}
 use Rattle.dpmi_cli.proofs.pairs.write_turns.Goals as goal
 

@@ -1,6 +1,4 @@
-use Rattle.std.proofs.Common.{[]}
-use Rattle.client_world.specs.declared.limits.TheConstants.{DEFAULT_TRACE}
-use Rattle.dpmi_words.specs.Meaning.{pair_in}
+use Rattle.{std.proofs.Common.{[]}, client_world.specs.declared.limits.TheConstants.{DEFAULT_TRACE}, dpmi_words.specs.Meaning.{pair_in}}
 use Rattle.dpmi_cli.proofs.Files.{is_blank, is_ready, is_started, first_refused, first_taken}
 use Rattle.dpmi_cli.proofs.prepare.load_pair.Goals as goal
 

@@ -1,6 +1,5 @@
 use Rattle.std.proofs.{Common.{◌≡◌, ◌∙◌, map, string_bytes, sym, ap, refl}, lemmas.Result.{IfOk-weaker}}
-use Rattle.std.specs.Prelude.{Some, None, option_map}
-use Rattle.dpmi_words.specs.Meaning.{Pairs, Runs, Soaks, meaning, meaning_in, pair_in, run_in}
+use Rattle.{std.specs.Prelude.{Some, None, option_map}, dpmi_words.specs.Meaning.{Pairs, Runs, Soaks, meaning, meaning_in, pair_in, run_in}}
 use Rattle.dpmi_cli.proofs.{Files.{meaning_comes, sure_comes}, Ranges.{pair_ranges, run_ranges}}
 use Rattle.dpmi_cli.proofs.prepare.prepare.Goals as goal
 

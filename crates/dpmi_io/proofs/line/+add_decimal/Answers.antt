@@ -1,8 +1,7 @@
-use Rattle.std.proofs.Common.{arith, ◌%◌, ◌+◌, ◌++◌, ◌∷◌, [], ap, ◌∙◌, sym, append_assoc}
-use Rattle.dpmi_io.proofs.Decimal.{decimal_more}
-use Rattle.dpmi_io.proofs.line.+add_decimal.Goals as goal
+use Rattle.{std.proofs.Common.{arith, ◌%◌, ◌+◌, ◌++◌, ◌∷◌, [], ap, ◌∙◌, sym, append_assoc}, dpmi_io.proofs.Decimal.{decimal_more}}
+use Rattle.dpmi_io.proofs.line.+add_decimal.Goals.{returns-then-n-ge10-clause-added as goal}
 
-pub returns-then-n-ge10-clause-added : goal.returns-then-n-ge10-clause-added
+pub returns-then-n-ge10-clause-added : goal
 returns-then-n-ge10-clause-added t c =
     c.add.ensures.added
     ∙ ap (λ l. l ++ (48 + c.args.n % 10) ∷ []) c.add_decimal.ensures.added

@@ -1,5 +1,4 @@
-use Rattle.std.proofs.Common.{Some, ap, sym, ◌∙◌}
-use Rattle.dpmi_io.proofs.Stored.{get-files_of, bytes_of}
+use Rattle.{std.proofs.Common.{Some, ap, sym, ◌∙◌}, dpmi_io.proofs.Stored.{get-files_of, bytes_of}}
 use Rattle.dpmi_io.proofs.memory_shelf.stored.Goals as goal
 
 pub returns-in-Some : goal.returns-in-Some

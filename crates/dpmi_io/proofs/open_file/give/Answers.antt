@@ -1,8 +1,7 @@
 use Rattle.std.proofs.{Common.{arith}, lemmas.Grind.{common_steps}}
-use Rattle.dpmi_io.proofs.Output.{given_rest}
-use Rattle.dpmi_io.proofs.open_file.give.Goals as goal
+use Rattle.dpmi_io.proofs.{Output.{given_rest}, open_file.give.Goals.{returns-clause-bytes as goal}}
 
-pub returns-clause-bytes : goal.returns-clause-bytes
+pub returns-clause-bytes : goal
 returns-clause-bytes c =
     let bytes = c.args.bytes.now in
     let at = c.args.at.now in

@@ -1,5 +1,4 @@
-use Rattle.std.proofs.{Common.{arith, ◌∙◌, refl, subst}, lemmas.Grind.{common_steps}}
-use Rattle.dpmi_io.specs.Causes.{Rose}
+use Rattle.{std.proofs.{Common.{arith, ◌∙◌, refl, subst}, lemmas.Grind.{common_steps}}, dpmi_io.specs.Causes.{Rose}}
 use Rattle.dpmi_io.proofs.Output.{gained-none, gains_piece, part_piece}
 use Rattle.dpmi_io.proofs.whole.put_all.Goals as goal
 

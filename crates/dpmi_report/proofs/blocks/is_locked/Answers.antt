@@ -1,6 +1,4 @@
-use Rattle.std.proofs.Common.{arith, ap, ◌∙◌}
-use Rattle.std.specs.Prelude.{nat_lt}
-use Rattle.dpmi_report.proofs.BlockBytes.{lock_is, page_below}
+use Rattle.{std.proofs.Common.{arith, ap, ◌∙◌}, std.specs.Prelude.{nat_lt}, dpmi_report.proofs.BlockBytes.{lock_is, page_below}}
 use Rattle.dpmi_report.proofs.blocks.is_locked.Goals as goal
 
 pub overflow_mul-page : goal.overflow_mul-page

@@ -1,7 +1,5 @@
-use Rattle.std.proofs.Common.{◌∙◌, refl}
-use Rattle.client_world.specs.declared.limits.TheConstants.{MAX_BLOCKS}
-use Rattle.dpmi_report.specs.Lines.{block_row}
-use Rattle.dpmi_report.proofs.Sequence.{gains_none, row_cut, row_gained}
+use Rattle.{std.proofs.Common.{◌∙◌, refl}, client_world.specs.declared.limits.TheConstants.{MAX_BLOCKS}}
+use Rattle.{dpmi_report.specs.Lines.{block_row}, dpmi_report.proofs.Sequence.{gains_none, row_cut, row_gained}}
 use Rattle.dpmi_report.proofs.blocks.put_block_rows.Goals as goal
 
 pub loop-place-init : goal.loop-place-init

@@ -1,6 +1,5 @@
 use Rattle.std.proofs.{Common.{arith, ◌*◌, ◌∙◌, ap, take, subst, ◌++◌}, lemmas.List.{take_all}}
-use Rattle.sha2.specs.{Sha256.{sha256}, Hashers.{Holds256}}
-use Rattle.client_world.specs.{Access.{bytes_of_block}, World.{block_at}}
+use Rattle.{sha2.specs.{Sha256.{sha256}, Hashers.{Holds256}}, client_world.specs.{Access.{bytes_of_block}, World.{block_at}}}
 use Rattle.dpmi_report.proofs.Sequence.{piece_more}
 use Rattle.dpmi_report.proofs.digest.block_digest.Goals as goal
 

@@ -1,5 +1,4 @@
-use Rattle.std.proofs.{Common.{arith, ◌∙◌, ◌+◌}, lemmas.List.{length-set}}
-use Rattle.client_world.specs.{Access.{bytes_of_block}, World.{block_at}}
+use Rattle.{std.proofs.{Common.{arith, ◌∙◌, ◌+◌}, lemmas.List.{length-set}}, client_world.specs.{Access.{bytes_of_block}, World.{block_at}}}
 use Rattle.dpmi_report.proofs.{BlockBytes.{has_byte}, Sequence.{byte_more, piece_is}}
 use Rattle.dpmi_report.proofs.digest.block_piece.Goals as goal
 

@@ -1,6 +1,5 @@
 use Rattle.std.proofs.{Common.{arith, ◌*◌, ◌∙◌, ap, take, subst, ◌++◌}, lemmas.List.{take_all}}
-use Rattle.sha2.specs.{Sha256.{sha256}, Hashers.{Holds256}}
-use Rattle.dpmi_report.proofs.Sequence.{piece_more}
+use Rattle.{sha2.specs.{Sha256.{sha256}, Hashers.{Holds256}}, dpmi_report.proofs.Sequence.{piece_more}}
 use Rattle.dpmi_report.proofs.digest.dos_digest.Goals as goal
 
 pub loop-i-preserved : goal.loop-i-preserved

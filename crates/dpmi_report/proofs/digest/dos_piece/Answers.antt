@@ -1,5 +1,4 @@
-use Rattle.std.proofs.{Common.{arith, ◌∙◌}, lemmas.List.{length-set}}
-use Rattle.dpmi_report.proofs.Sequence.{byte_more, piece_is}
+use Rattle.{std.proofs.{Common.{arith, ◌∙◌}, lemmas.List.{length-set}}, dpmi_report.proofs.Sequence.{byte_more, piece_is}}
 use Rattle.dpmi_report.proofs.digest.dos_piece.Goals as goal
 
 pub loop-i-preserved : goal.loop-i-preserved

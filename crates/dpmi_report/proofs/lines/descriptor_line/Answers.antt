@@ -1,7 +1,6 @@
-use Rattle.std.proofs.Common.{append_assoc}
-use Rattle.dpmi_report.proofs.lines.descriptor_line.Goals as goal
+use Rattle.{std.proofs.Common.{append_assoc}, dpmi_report.proofs.lines.descriptor_line.Goals.{returns as goal}}
 
-pub returns : goal.returns
+pub returns : goal
 returns c =
     rw (
       c.add-5.ensures.added,

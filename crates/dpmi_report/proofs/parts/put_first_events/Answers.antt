@@ -1,5 +1,4 @@
-use Rattle.std.proofs.Common.{◌∙◌, refl}
-use Rattle.dpmi_report.specs.Trace.{trace_row}
+use Rattle.{std.proofs.Common.{◌∙◌, refl}, dpmi_report.specs.Trace.{trace_row}}
 use Rattle.dpmi_report.proofs.Sequence.{gains_none, row_cut, row_gained}
 use Rattle.dpmi_report.proofs.parts.put_first_events.Goals as goal
 

@@ -1,7 +1,5 @@
-use Rattle.std.proofs.Common.{◌∙◌, refl}
-use Rattle.client_world.specs.declared.host_frames.TheConstants.{DESCRIPTORS}
-use Rattle.dpmi_report.specs.Lines.{desc_row}
-use Rattle.dpmi_report.proofs.Sequence.{gains_none, row_cut, row_gained}
+use Rattle.{std.proofs.Common.{◌∙◌, refl}, client_world.specs.declared.host_frames.TheConstants.{DESCRIPTORS}}
+use Rattle.{dpmi_report.specs.Lines.{desc_row}, dpmi_report.proofs.Sequence.{gains_none, row_cut, row_gained}}
 use Rattle.dpmi_report.proofs.parts.put_rows.Goals as goal
 
 pub loop-index-init : goal.loop-index-init

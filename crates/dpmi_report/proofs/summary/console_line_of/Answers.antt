@@ -1,5 +1,4 @@
-use Rattle.std.proofs.Common.{rules}
-use Rattle.dpmi_report.proofs.summary.console_line_of.Goals as goal
+use Rattle.{std.proofs.Common.{rules}, dpmi_report.proofs.summary.console_line_of.Goals.{returns as goal}}
 
-pub returns : goal.returns
+pub returns : goal
 returns c = search rules

@@ -1,9 +1,7 @@
-use Rattle.std.proofs.Common.{arith}
-use Rattle.dpmi_report.specs.Summary.{is_service}
-use Rattle.dpmi_report.proofs.Sequence.{counted}
-use Rattle.dpmi_report.proofs.summary.count_services.Goals as goal
+use Rattle.{std.proofs.Common.{arith}, dpmi_report.specs.Summary.{is_service}}
+use Rattle.dpmi_report.proofs.{Sequence.{counted}, summary.count_services.Goals.{loop-i-preserved as goal}}
 
-pub loop-i-preserved : goal.loop-i-preserved
+pub loop-i-preserved : goal
 loop-i-preserved c = (
   counted is_service c.args.host.now.world.kept c.loop-i.i c.service_at-count.result c.loop-i.count
       (omega (arith, c.loop-i-test.true, c.kept-i-end.ensures))

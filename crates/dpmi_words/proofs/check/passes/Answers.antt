@@ -1,7 +1,5 @@
-use Rattle.std.proofs.Common.{◌∙◌, sym, ap}
-use Rattle.std.specs.{Prelude.{option_and_then, is_some, Some, None}, String.{string_bytes}}
-use Rattle.dpmi_words.specs.{Reading.{step, finished}, Seen.{names_of, reading_of}}
-use Rattle.dpmi_words.proofs.InTurn.{word_taken, words_done}
+use Rattle.{std.proofs.Common.{◌∙◌, sym, ap}, std.specs.{Prelude.{option_and_then, is_some, Some, None}, String.{string_bytes}}}
+use Rattle.{dpmi_words.specs.{Reading.{step, finished}, Seen.{names_of, reading_of}}, dpmi_words.proofs.InTurn.{word_taken, words_done}}
 use Rattle.dpmi_words.proofs.check.passes.Goals as goal
 
 pub returns-then-not-branch : goal.returns-then-not-branch

@@ -1,5 +1,4 @@
-use Rattle.std.proofs.{Common.{Some, None, arith, ap, sym, ◌∙◌}, lemmas.Str.Pattern.{split_parts}}
-use Rattle.clap.specs.Lexer.{name_and_value}
+use Rattle.{std.proofs.{Common.{Some, None, arith, ap, sym, ◌∙◌}, lemmas.Str.Pattern.{split_parts}}, clap.specs.Lexer.{name_and_value}}
 use Rattle.clap.proofs.LexerLemmas.{name_and_value-at, name_and_value-without}
 use Rattle.dpmi_words.proofs.check.split_value.Goals as goal
 

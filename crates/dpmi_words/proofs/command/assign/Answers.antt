@@ -1,8 +1,6 @@
-use Rattle.std.proofs.{Common.{◌∙◌, ap, map}, lemmas.Result.{IfOk-weaker, IfErr-weaker}}
-use Rattle.std.specs.String.{string_bytes}
+use Rattle.{std.proofs.{Common.{◌∙◌, ap, map}, lemmas.Result.{IfOk-weaker, IfErr-weaker}}, std.specs.String.{string_bytes}}
 use Rattle.clap.specs.{Matches.{found_of}, Simple.{is_simple, matches_of}, Takes.{takes}}
-use Rattle.dpmi_words.specs.{Reading.{given_by}, Seen.{names_of, texts}}
-use Rattle.dpmi_words.proofs.Commands.{if_given}
+use Rattle.{dpmi_words.specs.{Reading.{given_by}, Seen.{names_of, texts}}, dpmi_words.proofs.Commands.{if_given}}
 use Rattle.dpmi_words.proofs.command.assign.Goals as goal
 
 pub returns-clause-values : goal.returns-clause-values

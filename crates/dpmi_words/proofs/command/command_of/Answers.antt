@@ -1,6 +1,4 @@
-use Rattle.std.proofs.Common.{◌∙◌, ap}
-use Rattle.clap.specs.Simple.{app_of, with_rule}
-use Rattle.dpmi_words.specs.Command.{with_operand, with_option}
+use Rattle.{std.proofs.Common.{◌∙◌, ap}, clap.specs.Simple.{app_of, with_rule}, dpmi_words.specs.Command.{with_operand, with_option}}
 use Rattle.dpmi_words.proofs.InTurn.{step_folded}
 use Rattle.dpmi_words.proofs.command.command_of.Goals as goal
 

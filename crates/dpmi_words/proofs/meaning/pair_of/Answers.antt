@@ -1,5 +1,4 @@
-use Rattle.std.proofs.Common.{rules}
-use Rattle.dpmi_words.proofs.meaning.pair_of.Goals as goal
+use Rattle.{std.proofs.Common.{rules}, dpmi_words.proofs.meaning.pair_of.Goals.{returns as goal}}
 
-pub returns : goal.returns
+pub returns : goal
 returns c = search rules

@@ -1,9 +1,6 @@
-use Rattle.std.proofs.Common.{◌∙◌, codes, sym, subst, map}
-use Rattle.std.specs.String.{string_bytes}
-use Rattle.clap.specs.Matches.{found_of}
+use Rattle.{std.proofs.Common.{◌∙◌, codes, sym, subst, map}, std.specs.String.{string_bytes}, clap.specs.Matches.{found_of}}
 use Rattle.dpmi_words.specs.{Command.{TakesItsWords, command_app}, Meaning.{pair_of_values}, Options.{pair_options}, Reading.{given_by}}
-use Rattle.dpmi_words.specs.Reading.{pair_operands}
-use Rattle.dpmi_words.proofs.Commands.{of_assigned, pair_takes_words}
+use Rattle.{dpmi_words.specs.Reading.{pair_operands}, dpmi_words.proofs.Commands.{of_assigned, pair_takes_words}}
 use Rattle.dpmi_words.proofs.meaning.read_pair.Goals as goal
 
 pub assign-requires : goal.assign-requires

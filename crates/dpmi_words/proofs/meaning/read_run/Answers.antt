@@ -1,9 +1,7 @@
-use Rattle.std.proofs.{Common.{◌∙◌, codes, sym, subst, map}, lemmas.Result.{IfOk-weaker}}
-use Rattle.std.specs.String.{string_bytes}
+use Rattle.{std.proofs.{Common.{◌∙◌, codes, sym, subst, map}, lemmas.Result.{IfOk-weaker}}, std.specs.String.{string_bytes}}
 use Rattle.clap.specs.Matches.{found_of}
 use Rattle.dpmi_words.specs.{Command.{TakesItsWords, command_app}, Meaning.{run_of_values}, Options.{run_options}, Reading.{given_by}}
-use Rattle.dpmi_words.specs.Reading.{one_operand}
-use Rattle.dpmi_words.proofs.Commands.{of_assigned, run_takes_words}
+use Rattle.{dpmi_words.specs.Reading.{one_operand}, dpmi_words.proofs.Commands.{of_assigned, run_takes_words}}
 use Rattle.dpmi_words.proofs.meaning.read_run.Goals as goal
 
 pub assign-requires : goal.assign-requires

@@ -1,5 +1,4 @@
-use Rattle.std.proofs.Common.{arith}
-use Rattle.exec_core.proofs.BitLaws.{highest_here, highest_further, none_higher}
+use Rattle.{std.proofs.Common.{arith}, exec_core.proofs.BitLaws.{highest_here, highest_further, none_higher}}
 use Rattle.exec_core.proofs.bits.highest_bit.Goals as goal
 
 pub returns-then-v-lt2 : goal.returns-then-v-lt2

@@ -1,5 +1,4 @@
-use Rattle.std.proofs.Common.{arith}
-use Rattle.exec_core.proofs.BitLaws.{lowest_here, lowest_further, none_lower}
+use Rattle.{std.proofs.Common.{arith}, exec_core.proofs.BitLaws.{lowest_here, lowest_further, none_lower}}
 use Rattle.exec_core.proofs.bits.lowest_bit.Goals as goal
 
 pub returns-then-v-eq1 : goal.returns-then-v-eq1

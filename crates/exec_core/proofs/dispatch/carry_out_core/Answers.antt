@@ -1,6 +1,5 @@
 use Rattle.std.proofs.{Common.{◌≡◌, true, refl, arith}, lemmas.Bool.{false_from_ne_true}}
-use Rattle.insn_forms.specs.{declared.insn.Op.{Op}, declared.insn.Operand.{Operand}}
-use Rattle.exec_core.specs.Dispatch.{is_core}
+use Rattle.{insn_forms.specs.{declared.insn.Op.{Op}, declared.insn.Operand.{Operand}}, exec_core.specs.Dispatch.{is_core}}
 use Rattle.insn_forms.specs.declared.insn.Op.TheVariants as ops
 use Rattle.exec_core.proofs.dispatch.carry_out_core.Goals as goal
 

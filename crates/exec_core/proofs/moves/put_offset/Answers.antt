@@ -1,9 +1,8 @@
 use Rattle.std.proofs.Common.{◌≡◌, ◌%◌, ◌∙◌, arith, refl}
-use Rattle.exec_core.proofs.OnRegisters.{lea_on, shaped_first}
+use Rattle.exec_core.proofs.{OnRegisters.{lea_on, shaped_first}, moves.put_offset.Goals.{returns as goal}}
 use Rattle.insn_forms.specs.Shapes.{shape_width}
-use Rattle.exec_core.proofs.moves.put_offset.Goals as goal
 
-pub returns : goal.returns
+pub returns : goal
 returns c =
     let i = c.args.i.now in
     let shape = c.args.shape in

@@ -1,8 +1,6 @@
-use Rattle.std.proofs.Common.{rules}
-use Rattle.exec_core.specs.Moves.{xchg}
-use Rattle.insn_plan.specs.Plan.{after_plan}
-use Rattle.exec_core.proofs.moves.xchg.Goals as goal
+use Rattle.{std.proofs.Common.{rules}, exec_core.specs.Moves.{xchg}, insn_plan.specs.Plan.{after_plan}}
+use Rattle.exec_core.proofs.moves.xchg.Goals.{returns as goal}
 
-pub returns : goal.returns
+pub returns : goal
 unfolding xchg after_plan
 returns c = search rules

@@ -1,5 +1,4 @@
-use Rattle.std.proofs.Common.{rules}
-use Rattle.exec_core.proofs.products.put_low_product.Goals as goal
+use Rattle.{std.proofs.Common.{rules}, exec_core.proofs.products.put_low_product.Goals.{returns as goal}}
 
-pub returns : goal.returns
+pub returns : goal
 returns c = search rules

@@ -1,7 +1,6 @@
-use Rattle.exec_core.proofs.OnRegisters.{on_shape}
-use Rattle.exec_core.proofs.shaped.run_on.Goals as goal
+use Rattle.exec_core.proofs.{OnRegisters.{on_shape}, shaped.run_on.Goals.{on_register-requires-clause-operands as goal}}
 
-pub on_register-requires-clause-operands : goal.on_register-requires-clause-operands
+pub on_register-requires-clause-operands : goal
 on_register-requires-clause-operands g c =
     on_shape c.args.m.now.world c.args.i.now c.args.shape g.row.W g.row.S c.args.n c.args.b c.requires.shape c.requires.some
     c.requires.width c.requires.number c.requires.second

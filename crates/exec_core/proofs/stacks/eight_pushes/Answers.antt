@@ -1,12 +1,9 @@
-use Rattle.std.proofs.Common.{◌≡◌, refl, ap, sym}
-use Rattle.client_world.specs.declared.registers.Regs.{Regs}
-use Rattle.exec_core.specs.Stacks.{pusha, with_pushed_register}
-use Rattle.insn_forms.specs.declared.insn.Insn.{Insn}
+use Rattle.{std.proofs.Common.{◌≡◌, refl, ap, sym}, client_world.specs.declared.registers.Regs.{Regs}}
+use Rattle.{exec_core.specs.Stacks.{pusha, with_pushed_register}, insn_forms.specs.declared.insn.Insn.{Insn}}
 use Rattle.insn_plan.specs.{Act.{Pending, done, unchanged}, Stack.{with_push}}
-use Rattle.exec_core.proofs.Parts.{push_is}
-use Rattle.exec_core.proofs.stacks.eight_pushes.Goals as goal
+use Rattle.exec_core.proofs.{Parts.{push_is}, stacks.eight_pushes.Goals.{returns as goal}}
 
-pub returns : goal.returns
+pub returns : goal
 unfolding pusha
 returns c =
     let w = c.args.m.now.world in

@@ -1,9 +1,8 @@
 use Rattle.std.proofs.Common.{◌≡◌, ◌%◌, arith}
-use Rattle.exec_core.proofs.OnRegisters.{register_gives}
+use Rattle.exec_core.proofs.{OnRegisters.{register_gives}, stacks.push_register.Goals.{push_value-requires-clause-first as goal}}
 use Rattle.insn_forms.specs.Shapes.{shape_width}
-use Rattle.exec_core.proofs.stacks.push_register.Goals as goal
 
-pub push_value-requires-clause-first : goal.push_value-requires-clause-first
+pub push_value-requires-clause-first : goal
 push_value-requires-clause-first g c =
     let shape = c.args.shape in
     let wide : shape_width shape ≡ g.row.W = cc in

@@ -1,5 +1,4 @@
-use Rattle.std.proofs.Common.{rules}
-use Rattle.exec_core.proofs.strings.is_over.Goals as goal
+use Rattle.{std.proofs.Common.{rules}, exec_core.proofs.strings.is_over.Goals.{returns-then-is_repeated as goal}}
 
-pub returns-then-is_repeated : goal.returns-then-is_repeated
+pub returns-then-is_repeated : goal
 returns-then-is_repeated c = search rules

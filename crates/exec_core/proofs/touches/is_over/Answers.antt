@@ -1,5 +1,4 @@
-use Rattle.std.proofs.Common.{rules}
-use Rattle.exec_core.proofs.touches.is_over.Goals as goal
+use Rattle.{std.proofs.Common.{rules}, exec_core.proofs.touches.is_over.Goals.{returns-then-ne as goal}}
 
-pub returns-then-ne : goal.returns-then-ne
+pub returns-then-ne : goal
 returns-then-ne c = search rules

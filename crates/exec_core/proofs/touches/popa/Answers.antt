@@ -1,8 +1,6 @@
-use Rattle.std.proofs.Common.{rules}
-use Rattle.exec_core.specs.Stacks.{popa}
-use Rattle.insn_plan.specs.Accesses.{accesses_after}
-use Rattle.exec_core.proofs.touches.popa.Goals as goal
+use Rattle.{std.proofs.Common.{rules}, exec_core.specs.Stacks.{popa}, insn_plan.specs.Accesses.{accesses_after}}
+use Rattle.exec_core.proofs.touches.popa.Goals.{returns as goal}
 
-pub returns : goal.returns
+pub returns : goal
 unfolding popa accesses_after
 returns c = search rules

@@ -1,5 +1,4 @@
-use Rattle.fault_service.proofs.SoundAnswers.{sound_by_mode}
-use Rattle.fault_service.proofs.by_mode.every_delivery_is_sound.Goals as goal
+use Rattle.fault_service.proofs.{SoundAnswers.{sound_by_mode}, by_mode.every_delivery_is_sound.Goals.{returns as goal}}
 
-pub returns : goal.returns
+pub returns : goal
 returns c = sound_by_mode

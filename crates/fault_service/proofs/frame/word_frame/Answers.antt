@@ -1,6 +1,4 @@
-use Rattle.std.proofs.Common.{arith}
-use Rattle.fault_service.proofs.FrameItems.{all_words}
-use Rattle.fault_service.proofs.frame.word_frame.Goals as goal
+use Rattle.{std.proofs.Common.{arith}, fault_service.proofs.{FrameItems.{all_words}, frame.word_frame.Goals.{returns as goal}}}
 
-pub returns : goal.returns
+pub returns : goal
 returns c = all_words c.args.items.now c.put_words.new.into (omega arith) c.put_words.ensures

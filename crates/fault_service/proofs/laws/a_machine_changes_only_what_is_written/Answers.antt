@@ -1,7 +1,7 @@
 use Rattle.fault_service.specs.Memory.{IsMachineView}
-use Rattle.fault_service.proofs.laws.a_machine_changes_only_what_is_written.Goals as goal
+use Rattle.fault_service.proofs.laws.a_machine_changes_only_what_is_written.Goals.{returns as goal}
 
-pub returns : goal.returns
+pub returns : goal
 returns c =
     let m : IsMachineView c.args.m.now =
     record { sound = c.ram-ram.ensures.sound; holds = c.ram-ram.ensures.holds; places = c.ram-ram.ensures.places } in

@@ -1,5 +1,4 @@
-use Rattle.fault_service.proofs.RoundTrip.{frame_law}
-use Rattle.fault_service.proofs.laws.the_frame_lies_at_the_handlers_stack_pointer.Goals as goal
+use Rattle.fault_service.proofs.{RoundTrip.{frame_law}, laws.the_frame_lies_at_the_handlers_stack_pointer.Goals.{returns as goal}}
 
-pub returns : goal.returns
+pub returns : goal
 returns c = frame_law

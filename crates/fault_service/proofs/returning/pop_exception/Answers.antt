@@ -1,11 +1,8 @@
-use Rattle.std.proofs.Common.{rules, ◌≡◌, ◌∙◌, Ok}
-use Rattle.guest_space.specs.Pending.{first_write_fault, after_writes}
-use Rattle.insn_plan.proofs.WrittenState.{carried_by}
-use Rattle.insn_plan.specs.Plan.{after_commit}
-use Rattle.fault_service.specs.Return.{pending_of_exception_frame}
-use Rattle.fault_service.proofs.returning.pop_exception.Goals as goal
+use Rattle.{std.proofs.Common.{rules, ◌≡◌, ◌∙◌, Ok}, guest_space.specs.Pending.{first_write_fault, after_writes}}
+use Rattle.{insn_plan.proofs.WrittenState.{carried_by}, insn_plan.specs.Plan.{after_commit}}
+use Rattle.{fault_service.specs.Return.{pending_of_exception_frame}, fault_service.proofs.returning.pop_exception.Goals.{returns as goal}}
 
-pub returns : goal.returns
+pub returns : goal
 unfolding first_write_fault after_writes after_commit
 returns c =
     let frame = c.in_ok-frame.frame in

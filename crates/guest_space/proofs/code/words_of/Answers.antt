@@ -1,6 +1,4 @@
-use Rattle.std.proofs.Common.{arith}
-use Rattle.guest_space.proofs.Codes.{words_of_region}
-use Rattle.guest_space.proofs.code.words_of.Goals as goal
+use Rattle.{std.proofs.Common.{arith}, guest_space.proofs.{Codes.{words_of_region}, code.words_of.Goals.{returns as goal}}}
 
-pub returns : goal.returns
+pub returns : goal
 returns c = grind (arith, words_of_region)

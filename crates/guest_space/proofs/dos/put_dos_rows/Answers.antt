@@ -1,5 +1,4 @@
-use Rattle.std.proofs.Common.{sym, refl, arith}
-use Rattle.guest_space.proofs.DosRows.{row_put_next, run_bytes_none}
+use Rattle.{std.proofs.Common.{sym, refl, arith}, guest_space.proofs.DosRows.{row_put_next, run_bytes_none}}
 use Rattle.guest_space.proofs.dos.put_dos_rows.Goals as goal
 
 pub loop-number-init : goal.loop-number-init

@@ -1,9 +1,6 @@
-use Rattle.std.proofs.Common.{◌≡◌, ◌+◌, ap, arith, refl, List, length}
-use Rattle.client_world.specs.declared.dos_memory.DosEntry.{DosEntry}
-use Rattle.guest_ram.proofs.PutLaws.{length-put}
-use Rattle.host_memory.specs.{DosList.{arena_in}, Layout.{arena_part}}
-use Rattle.guest_space.specs.Arena.{with_replaced_entries}
-use Rattle.host_memory.proofs.ListsClaim.{length-arena_in}
+use Rattle.{std.proofs.Common.{◌≡◌, ◌+◌, ap, arith, refl, List, length}, client_world.specs.declared.dos_memory.DosEntry.{DosEntry}}
+use Rattle.{guest_ram.proofs.PutLaws.{length-put}, host_memory.specs.{DosList.{arena_in}, Layout.{arena_part}}}
+use Rattle.{guest_space.specs.Arena.{with_replaced_entries}, host_memory.proofs.ListsClaim.{length-arena_in}}
 use Rattle.guest_space.proofs.{ArenaLists.{list_start}, ArenaPuts.{length-spliced}, ArenaWrites.{splice_fits, arena_after, count_after}}
 use Rattle.guest_space.proofs.ArenaWrites.{replaced_is, written_is}
 use Rattle.guest_space.proofs.dos.put_entries.Goals as goal

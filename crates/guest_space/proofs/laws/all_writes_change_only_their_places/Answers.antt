@@ -1,5 +1,4 @@
-use Rattle.guest_space.proofs.Writes.{only_writes}
-use Rattle.guest_space.proofs.laws.all_writes_change_only_their_places.Goals as goal
+use Rattle.guest_space.proofs.{Writes.{only_writes}, laws.all_writes_change_only_their_places.Goals.{returns as goal}}
 
-pub returns : goal.returns
+pub returns : goal
 returns c = only_writes

@@ -1,5 +1,4 @@
-use Rattle.guest_space.proofs.OnlyWritten.{only_stored}
-use Rattle.guest_space.proofs.laws.every_write_changes_only_its_places.Goals as goal
+use Rattle.guest_space.proofs.{OnlyWritten.{only_stored}, laws.every_write_changes_only_its_places.Goals.{returns as goal}}
 
-pub returns : goal.returns
+pub returns : goal
 returns c = only_stored

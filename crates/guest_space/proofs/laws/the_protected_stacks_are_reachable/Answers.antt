@@ -1,5 +1,4 @@
-use Rattle.guest_space.proofs.HostStacks.{stacks_reachable}
-use Rattle.guest_space.proofs.laws.the_protected_stacks_are_reachable.Goals as goal
+use Rattle.guest_space.proofs.{HostStacks.{stacks_reachable}, laws.the_protected_stacks_are_reachable.Goals.{returns as goal}}
 
-pub returns : goal.returns
+pub returns : goal
 returns c = stacks_reachable

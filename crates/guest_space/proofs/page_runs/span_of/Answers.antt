@@ -1,5 +1,4 @@
-use Rattle.std.proofs.Common.{rules, ◌≡◌, slice_index_or, arith}
-use Rattle.client_world.specs.declared.segments.SegReg.TheVariants.{Es}
+use Rattle.{std.proofs.Common.{rules, ◌≡◌, slice_index_or, arith}, client_world.specs.declared.segments.SegReg.TheVariants.{Es}}
 use Rattle.guest_space.proofs.WriteRuns.{span_grows}
 use Rattle.guest_space.proofs.page_runs.span_of.Goals as goal
 

@@ -1,5 +1,4 @@
-use Rattle.guest_space.proofs.CacheLaws.{empty_warm}
-use Rattle.guest_space.proofs.pages.empty_cache.Goals as goal
+use Rattle.guest_space.proofs.{CacheLaws.{empty_warm}, pages.empty_cache.Goals.{returns as goal}}
 
-pub returns : goal.returns
+pub returns : goal
 returns c = empty_warm

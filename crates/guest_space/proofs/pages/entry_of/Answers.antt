@@ -1,6 +1,4 @@
-use Rattle.std.proofs.Common.{arith}
-use Rattle.guest_space.proofs.CacheLaws.{entry_hits}
-use Rattle.guest_space.proofs.pages.entry_of.Goals as goal
+use Rattle.{std.proofs.Common.{arith}, guest_space.proofs.{CacheLaws.{entry_hits}, pages.entry_of.Goals.{returns-clause-hit as goal}}}
 
-pub returns-clause-hit : goal.returns-clause-hit
+pub returns-clause-hit : goal
 returns-clause-hit c = grind (arith, entry_hits)

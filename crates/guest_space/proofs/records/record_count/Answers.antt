@@ -1,5 +1,4 @@
-use Rattle.std.proofs.Common.{arith}
-use Rattle.guest_space.proofs.RecordWrites.{counted_rows}
+use Rattle.{std.proofs.Common.{arith}, guest_space.proofs.RecordWrites.{counted_rows}}
 use Rattle.guest_space.proofs.records.record_count.Goals as goal
 
 pub returns-then-get8-eq0-clause-count : goal.returns-then-get8-eq0-clause-count

@@ -1,5 +1,4 @@
-use Rattle.std.proofs.{Common.{refl, arith}, lemmas.Bool.{ne_eqb}}
-use Rattle.host_memory.specs.Vectors.{callback_at}
+use Rattle.{std.proofs.{Common.{refl, arith}, lemmas.Bool.{ne_eqb}}, host_memory.specs.Vectors.{callback_at}}
 use Rattle.guest_space.proofs.VectorCalls.{second_pointer}
 use Rattle.guest_space.proofs.vectors.callback.Goals as goal
 

@@ -1,5 +1,4 @@
-use Rattle.host_memory.proofs.BlankSound.{blank_is_sound}
-use Rattle.host_memory.proofs.blank.a_blank_world_is_sound.Goals as goal
+use Rattle.host_memory.proofs.{BlankSound.{blank_is_sound}, blank.a_blank_world_is_sound.Goals.{returns as goal}}
 
-pub returns : goal.returns
+pub returns : goal
 returns c = blank_is_sound

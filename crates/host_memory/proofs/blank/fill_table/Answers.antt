@@ -1,5 +1,4 @@
-use Rattle.std.proofs.Common.{arith}
-use Rattle.host_memory.specs.Filling.{table_entry, table_start}
+use Rattle.{std.proofs.Common.{arith}, host_memory.specs.Filling.{table_entry, table_start}}
 use Rattle.host_memory.proofs.FreshMemory.{none_written, one_written}
 use Rattle.host_memory.proofs.blank.fill_table.Goals as goal
 

@@ -1,5 +1,4 @@
-use Rattle.std.proofs.Common.{rules}
-use Rattle.host_memory.proofs.blank.vector_half.Goals as goal
+use Rattle.{std.proofs.Common.{rules}, host_memory.proofs.blank.vector_half.Goals.{returns-then-k-eq0 as goal}}
 
-pub returns-then-k-eq0 : goal.returns-then-k-eq0
+pub returns-then-k-eq0 : goal
 returns-then-k-eq0 c = search rules

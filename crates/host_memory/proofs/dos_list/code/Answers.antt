@@ -1,5 +1,4 @@
-use Rattle.std.proofs.Common.{rules}
-use Rattle.host_memory.proofs.dos_list.code.Goals as goal
+use Rattle.{std.proofs.Common.{rules}, host_memory.proofs.dos_list.code.Goals.{returns-in-Dpmi as goal}}
 
-pub returns-in-Dpmi : goal.returns-in-Dpmi
+pub returns-in-Dpmi : goal
 returns-in-Dpmi c = search rules

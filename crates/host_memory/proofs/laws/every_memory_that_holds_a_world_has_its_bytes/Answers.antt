@@ -1,5 +1,4 @@
-use Rattle.host_memory.proofs.BlocksClaim.{holds_world}
-use Rattle.host_memory.proofs.laws.every_memory_that_holds_a_world_has_its_bytes.Goals as goal
+use Rattle.host_memory.proofs.{BlocksClaim.{holds_world}, laws.every_memory_that_holds_a_world_has_its_bytes.Goals.{returns as goal}}
 
-pub returns : goal.returns
+pub returns : goal
 returns c = holds_world

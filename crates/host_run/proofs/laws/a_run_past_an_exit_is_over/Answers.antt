@@ -1,5 +1,4 @@
-use Rattle.host_run.proofs.Runs.{run_stays}
-use Rattle.host_run.proofs.laws.a_run_past_an_exit_is_over.Goals as goal
+use Rattle.host_run.proofs.{Runs.{run_stays}, laws.a_run_past_an_exit_is_over.Goals.{returns as goal}}
 
-pub returns : goal.returns
+pub returns : goal
 returns c = run_stays

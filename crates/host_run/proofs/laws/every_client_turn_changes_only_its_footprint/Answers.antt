@@ -1,7 +1,6 @@
-use Rattle.host_run.proofs.Touches.{client_changes}
-use Rattle.host_run.proofs.laws.every_client_turn_changes_only_its_footprint.Goals as goal
+use Rattle.host_run.proofs.{Touches.{client_changes}, laws.every_client_turn_changes_only_its_footprint.Goals.{returns as goal}}
 
-pub returns : goal.returns
+pub returns : goal
 returns c = λ v u machine.
     client_changes v u (record {
       step = c.every_step_changes_only_what_it_writes.ensures.step v machine;

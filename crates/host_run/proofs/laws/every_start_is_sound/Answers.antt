@@ -1,5 +1,4 @@
-use Rattle.host_run.proofs.Sound.{blank_sound, started_sound}
-use Rattle.host_run.proofs.laws.every_start_is_sound.Goals as goal
+use Rattle.host_run.proofs.{Sound.{blank_sound, started_sound}, laws.every_start_is_sound.Goals.{returns as goal}}
 
-pub returns : goal.returns
+pub returns : goal
 returns c = record { blank = blank_sound; started = started_sound }

@@ -1,5 +1,4 @@
-use Rattle.host_run.proofs.Runs.{turns_stay}
-use Rattle.host_run.proofs.laws.once_ended_a_run_stays.Goals as goal
+use Rattle.host_run.proofs.{Runs.{turns_stay}, laws.once_ended_a_run_stays.Goals.{returns as goal}}
 
-pub returns : goal.returns
+pub returns : goal
 returns c = turns_stay

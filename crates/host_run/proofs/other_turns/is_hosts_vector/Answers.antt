@@ -1,5 +1,4 @@
-use Rattle.std.proofs.Common.{rules}
-use Rattle.host_run.proofs.other_turns.is_hosts_vector.Goals as goal
+use Rattle.{std.proofs.Common.{rules}, host_run.proofs.other_turns.is_hosts_vector.Goals.{returns-then-p-selector_of as goal}}
 
-pub returns-then-p-selector_of : goal.returns-then-p-selector_of
+pub returns-then-p-selector_of : goal
 returns-then-p-selector_of c = search rules

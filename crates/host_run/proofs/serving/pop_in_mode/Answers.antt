@@ -1,6 +1,4 @@
-use Rattle.std.proofs.Common.{ap, rules}
-use Rattle.client_world.specs.World.{World}
-use Rattle.interrupts.proofs.KeptWorlds.{kept_world_popped, return_state}
+use Rattle.{std.proofs.Common.{ap, rules}, client_world.specs.World.{World}, interrupts.proofs.KeptWorlds.{kept_world_popped, return_state}}
 use Rattle.host_memory.specs.View.{MachineView}
 use Rattle.host_run.proofs.serving.pop_in_mode.Goals as goal
 

@@ -1,5 +1,4 @@
-use Rattle.std.proofs.Common.{rules}
-use Rattle.host_run.proofs.traps.protected_code_address.Goals as goal
+use Rattle.{std.proofs.Common.{rules}, host_run.proofs.traps.protected_code_address.Goals.{returns as goal}}
 
-pub returns : goal.returns
+pub returns : goal
 returns c = search rules

@@ -1,5 +1,4 @@
-use Rattle.std.proofs.Common.{rules}
-use Rattle.host_run.proofs.traps.trap_at.Goals as goal
+use Rattle.{std.proofs.Common.{rules}, host_run.proofs.traps.trap_at.Goals.{returns-in-Protected as goal}}
 
-pub returns-in-Protected : goal.returns-in-Protected
+pub returns-in-Protected : goal
 returns-in-Protected c = search rules

@@ -1,6 +1,4 @@
-use Rattle.std.proofs.Common.{◌≡◌, sym, ap, subst, ◌∙◌}
-use Rattle.insn_forms.specs.Grammar.{AllBytes}
-use Rattle.insn_decode.specs.Decode.{decoded}
+use Rattle.{std.proofs.Common.{◌≡◌, sym, ap, subst, ◌∙◌}, insn_forms.specs.Grammar.{AllBytes}, insn_decode.specs.Decode.{decoded}}
 use Rattle.insn_decode.proofs.Answering.{decoded_whole, decoded_only, decoded_more, more_decoded, decoded_invalid, invalid_decoded}
 use Rattle.insn_decode.proofs.decoding.decode.Goals as goal
 

@@ -1,5 +1,4 @@
-use Rattle.std.proofs.Common.{ℕ, ◌+◌, ◌*◌, ◌^◌, ◌<◌, ◌≤◌, arith}
-use Rattle.insn_decode.proofs.WholeNumbers.{grows}
+use Rattle.{std.proofs.Common.{ℕ, ◌+◌, ◌*◌, ◌^◌, ◌<◌, ◌≤◌, arith}, insn_decode.proofs.WholeNumbers.{grows}}
 use Rattle.insn_decode.proofs.number.+many.Goals as goal
 
 grown : (t : ℕ) (c : goal.After-from t)

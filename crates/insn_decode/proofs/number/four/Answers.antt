@@ -1,5 +1,4 @@
-use Rattle.std.proofs.Common.{arith}
-use Rattle.insn_decode.proofs.WholeNumbers.{too_few, four_gives}
+use Rattle.{std.proofs.Common.{arith}, insn_decode.proofs.WholeNumbers.{too_few, four_gives}}
 use Rattle.insn_decode.proofs.number.four.Goals as goal
 
 pub returns-then-bytes-lt4-clause-gives : goal.returns-then-bytes-lt4-clause-gives

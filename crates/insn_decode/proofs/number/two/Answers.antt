@@ -1,5 +1,4 @@
-use Rattle.std.proofs.Common.{arith}
-use Rattle.insn_decode.proofs.WholeNumbers.{too_few, two_gives}
+use Rattle.{std.proofs.Common.{arith}, insn_decode.proofs.WholeNumbers.{too_few, two_gives}}
 use Rattle.insn_decode.proofs.number.two.Goals as goal
 
 pub returns-then-bytes-lt2-clause-gives : goal.returns-then-bytes-lt2-clause-gives

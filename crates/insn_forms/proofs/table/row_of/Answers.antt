@@ -1,5 +1,4 @@
-use Rattle.std.proofs.Common.{◌∙◌, sym, ap, arith}
-use Rattle.insn_forms.proofs.Tables.{row_one_is, row_two_is, one_has_rows, two_has_rows}
+use Rattle.{std.proofs.Common.{◌∙◌, sym, ap, arith}, insn_forms.proofs.Tables.{row_one_is, row_two_is, one_has_rows, two_has_rows}}
 use Rattle.insn_forms.specs.OpcodeMap.{opcode_row}
 use Rattle.insn_forms.proofs.table.row_of.Goals as goal
 

@@ -1,6 +1,5 @@
 use Rattle.std.proofs.{Common.{◌∙◌, sym, arith}, lemmas.List.{get_or_past}}
-use Rattle.insn_forms.specs.{declared.rows.Form.TheVariants.{Empty}, OpcodeMap.{no_row}}
-use Rattle.insn_forms.proofs.Tables.{picked}
+use Rattle.{insn_forms.specs.{declared.rows.Form.TheVariants.{Empty}, OpcodeMap.{no_row}}, insn_forms.proofs.Tables.{picked}}
 use Rattle.insn_forms.proofs.table.row_of_group.Goals as goal
 
 pub returns-then-reg-lt8 : goal.returns-then-reg-lt8

@@ -1,5 +1,4 @@
-use Rattle.std.proofs.Common.{rules}
-use Rattle.insn_plan.proofs.looks.carry_out_by_tables.Goals as goal
+use Rattle.{std.proofs.Common.{rules}, insn_plan.proofs.looks.carry_out_by_tables.Goals.{returns as goal}}
 
-pub returns : goal.returns
+pub returns : goal
 returns g c = search rules

@@ -1,6 +1,4 @@
-use Rattle.std.proofs.Common.{rules}
-use Rattle.insn_plan.proofs.WrittenState.{fault_reported}
-use Rattle.insn_plan.proofs.looks.run_row.Goals as goal
+use Rattle.{std.proofs.Common.{rules}, insn_plan.proofs.{WrittenState.{fault_reported}, looks.run_row.Goals.{returns-in-Ok as goal}}}
 
-pub returns-in-Ok : goal.returns-in-Ok
+pub returns-in-Ok : goal
 returns-in-Ok g c = search (rules, fault_reported)

@@ -1,11 +1,8 @@
-use Rattle.std.proofs.Common.{Ok, sym, ap, ◌∙◌}
-use Rattle.host_memory.specs.View.{MachineView}
-use Rattle.insn_forms.specs.declared.insn.Operand.{Operand}
+use Rattle.{std.proofs.Common.{Ok, sym, ap, ◌∙◌}, host_memory.specs.View.{MachineView}, insn_forms.specs.declared.insn.Operand.{Operand}}
 use Rattle.insn_plan.specs.{Act.{unchanged}, Operands.{put_operand}, Plan.{after_commit}}
-use Rattle.insn_plan.proofs.WrittenState.{put_in_register}
-use Rattle.insn_plan.proofs.operands.put_operand.Goals as goal
+use Rattle.insn_plan.proofs.{WrittenState.{put_in_register}, operands.put_operand.Goals.{returns-in-Reg as goal}}
 
-pub returns-in-Reg : goal.returns-in-Reg
+pub returns-in-Reg : goal
 returns-in-Reg c =
     let v = c.args.m.now in
     ap (λ (o : Operand). after_commit v (put_operand v.world.regs c.args.addr32 c.args.width o c.args.v (unchanged v.world))) c.in-Reg.is

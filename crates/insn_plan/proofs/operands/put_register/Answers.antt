@@ -1,7 +1,6 @@
-use Rattle.std.proofs.Common.{rules}
-use Rattle.insn_plan.specs.Registers.{with_register}
-use Rattle.insn_plan.proofs.operands.put_register.Goals as goal
+use Rattle.{std.proofs.Common.{rules}, insn_plan.specs.Registers.{with_register}}
+use Rattle.insn_plan.proofs.operands.put_register.Goals.{returns-after-high as goal}
 
-pub returns-after-high : goal.returns-after-high
+pub returns-after-high : goal
 unfolding with_register
 returns-after-high c = search rules

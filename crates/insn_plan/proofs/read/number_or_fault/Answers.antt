@@ -1,7 +1,6 @@
-use Rattle.std.proofs.Common.{rules}
-use Rattle.insn_plan.specs.Act.{value_of}
-use Rattle.insn_plan.proofs.read.number_or_fault.Goals as goal
+use Rattle.{std.proofs.Common.{rules}, insn_plan.specs.Act.{value_of}}
+use Rattle.insn_plan.proofs.read.number_or_fault.Goals.{returns-in_ok-read-in-1 as goal}
 
-pub returns-in_ok-read-in-1 : goal.returns-in_ok-read-in-1
+pub returns-in_ok-read-in-1 : goal
 unfolding value_of
 returns-in_ok-read-in-1 c = search rules

@@ -1,5 +1,4 @@
-use Rattle.std.proofs.Common.{rules}
-use Rattle.insn_plan.proofs.registers.cut_address.Goals as goal
+use Rattle.{std.proofs.Common.{rules}, insn_plan.proofs.registers.cut_address.Goals.{returns-else-addr32 as goal}}
 
-pub returns-else-addr32 : goal.returns-else-addr32
+pub returns-else-addr32 : goal
 returns-else-addr32 c = search rules

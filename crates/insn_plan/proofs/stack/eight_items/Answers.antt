@@ -1,7 +1,5 @@
-use Rattle.std.proofs.Common.{ℕ, Bool, [], ◌∙◌, ap, refl, arith}
-use Rattle.client_world.specs.declared.registers.Regs.{Regs}
-use Rattle.insn_plan.specs.{Registers.{cut_address}, Stack.{has_big_stack}}
-use Rattle.insn_plan.proofs.TopItem.{eight_numbers}
+use Rattle.{std.proofs.Common.{ℕ, Bool, [], ◌∙◌, ap, refl, arith}, client_world.specs.declared.registers.Regs.{Regs}}
+use Rattle.{insn_plan.specs.{Registers.{cut_address}, Stack.{has_big_stack}}, insn_plan.proofs.TopItem.{eight_numbers}}
 use Rattle.insn_plan.proofs.stack.eight_items.Goals as goal
 
 pub returns-in_ok-items : goal.returns-in_ok-items

@@ -1,5 +1,4 @@
-use Rattle.std.proofs.Common.{rules}
-use Rattle.insn_plan.proofs.stack.pointer_down.Goals as goal
+use Rattle.{std.proofs.Common.{rules}, insn_plan.proofs.stack.pointer_down.Goals.{returns-clause-value as goal}}
 
-pub returns-clause-value : goal.returns-clause-value
+pub returns-clause-value : goal
 returns-clause-value c = search rules

@@ -1,7 +1,5 @@
-use Rattle.std.proofs.Common.{rules}
-use Rattle.client_world.specs.declared.outcome.Exit.TheVariants.{Fault}
-use Rattle.interrupts.specs.Delivery.{real_delivery}
-use Rattle.interrupts.proofs.Alone.{delivery_ok, delivery_err}
+use Rattle.{std.proofs.Common.{rules}, client_world.specs.declared.outcome.Exit.TheVariants.{Fault}}
+use Rattle.{interrupts.specs.Delivery.{real_delivery}, interrupts.proofs.Alone.{delivery_ok, delivery_err}}
 use Rattle.interrupts.proofs.exceptions.deliver_in_real_mode.Goals as goal
 
 pub returns-then-not-has_real_vector-clause-world : goal.returns-then-not-has_real_vector-clause-world

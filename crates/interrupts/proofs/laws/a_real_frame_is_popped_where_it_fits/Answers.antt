@@ -1,5 +1,4 @@
-use Rattle.interrupts.proofs.ReturnPlans.{popped_where_it_fits}
-use Rattle.interrupts.proofs.laws.a_real_frame_is_popped_where_it_fits.Goals as goal
+use Rattle.interrupts.proofs.{ReturnPlans.{popped_where_it_fits}, laws.a_real_frame_is_popped_where_it_fits.Goals.{returns as goal}}
 
-pub returns : goal.returns
+pub returns : goal
 returns c = popped_where_it_fits

@@ -1,8 +1,7 @@
 use Rattle.interrupts.proofs.SoundAnswers.{sound_delivery, sound_interrupt, sound_popped, sound_world_delivery, sound_world_interrupt}
-use Rattle.interrupts.proofs.SoundAnswers.{sound_world_popped, sound_world_step}
-use Rattle.interrupts.proofs.laws.every_answer_is_sound.Goals as goal
+use Rattle.interrupts.proofs.{SoundAnswers.{sound_world_popped, sound_world_step}, laws.every_answer_is_sound.Goals.{returns as goal}}
 
-pub returns : goal.returns
+pub returns : goal
 returns c = record {
   interrupt = sound_interrupt;
   delivery = sound_delivery;

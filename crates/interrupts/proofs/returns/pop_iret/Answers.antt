@@ -1,7 +1,5 @@
-use Rattle.std.proofs.Common.{rules}
-use Rattle.client_world.specs.declared.outcome.Exit.TheVariants.{BadFrame}
-use Rattle.interrupts.specs.Delivery.{after_iret}
-use Rattle.interrupts.proofs.Alone.{popped_ok, popped_err}
+use Rattle.{std.proofs.Common.{rules}, client_world.specs.declared.outcome.Exit.TheVariants.{BadFrame}}
+use Rattle.{interrupts.specs.Delivery.{after_iret}, interrupts.proofs.Alone.{popped_ok, popped_err}}
 use Rattle.interrupts.proofs.returns.pop_iret.Goals as goal
 
 pub returns-in-Ok-clause-world : goal.returns-in-Ok-clause-world

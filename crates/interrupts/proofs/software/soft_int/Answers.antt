@@ -1,5 +1,4 @@
-use Rattle.std.proofs.Common.{rules}
-use Rattle.interrupts.specs.Delivery.{software_interrupt}
+use Rattle.{std.proofs.Common.{rules}, interrupts.specs.Delivery.{software_interrupt}}
 use Rattle.interrupts.proofs.Alone.{interrupt_ok, interrupt_err}
 use Rattle.interrupts.proofs.software.soft_int.Goals as goal
 

@@ -1,5 +1,4 @@
-use Rattle.std.proofs.Common.{rules}
-use Rattle.interrupts.proofs.software.vector.Goals as goal
+use Rattle.{std.proofs.Common.{rules}, interrupts.proofs.software.vector.Goals.{returns-in-Protected as goal}}
 
-pub returns-in-Protected : goal.returns-in-Protected
+pub returns-in-Protected : goal
 returns-in-Protected c = search rules

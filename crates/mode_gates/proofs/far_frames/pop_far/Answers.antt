@@ -1,7 +1,5 @@
-use Rattle.std.proofs.Common.{rules}
-use Rattle.client_world.specs.declared.outcome.Exit.TheVariants.{BadFrame}
-use Rattle.mode_gates.specs.FarFrames.{after_far_return}
-use Rattle.mode_gates.proofs.FarStates.{far_ok, far_err}
+use Rattle.{std.proofs.Common.{rules}, client_world.specs.declared.outcome.Exit.TheVariants.{BadFrame}}
+use Rattle.{mode_gates.specs.FarFrames.{after_far_return}, mode_gates.proofs.FarStates.{far_ok, far_err}}
 use Rattle.mode_gates.proofs.far_frames.pop_far.Goals as goal
 
 pub returns-in-Ok-clause-world : goal.returns-in-Ok-clause-world

@@ -1,5 +1,4 @@
-use Rattle.mode_gates.proofs.FarStates.{kept_entry}
-use Rattle.mode_gates.proofs.laws.the_entry_keeps_the_rest.Goals as goal
+use Rattle.mode_gates.proofs.{FarStates.{kept_entry}, laws.the_entry_keeps_the_rest.Goals.{returns as goal}}
 
-pub returns : goal.returns
+pub returns : goal
 returns c = kept_entry

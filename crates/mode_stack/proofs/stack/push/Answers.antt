@@ -1,7 +1,5 @@
-use Rattle.std.proofs.Common.{◌∙◌, ap, arith, ℕ, List}
-use Rattle.client_world.specs.declared.calls.Record.{Record}
-use Rattle.guest_space.specs.Records.{with_record}
-use Rattle.mode_stack.proofs.Trips.{exact_bytes, read_bytes}
+use Rattle.{std.proofs.Common.{◌∙◌, ap, arith, ℕ, List}, client_world.specs.declared.calls.Record.{Record}}
+use Rattle.{guest_space.specs.Records.{with_record}, mode_stack.proofs.Trips.{exact_bytes, read_bytes}}
 use Rattle.mode_stack.proofs.stack.push.Goals as goal
 
 pub put_record-requires-clause-exact : goal.put_record-requires-clause-exact

@@ -1,5 +1,4 @@
-use Rattle.std.proofs.Common.{rules}
-use Rattle.mz_loader.proofs.header.block_paras.Goals as goal
+use Rattle.{std.proofs.Common.{rules}, mz_loader.proofs.header.block_paras.Goals.{returns-else-low-eq0-clause-paras as goal}}
 
-pub returns-else-low-eq0-clause-paras : goal.returns-else-low-eq0-clause-paras
+pub returns-else-low-eq0-clause-paras : goal
 returns-else-low-eq0-clause-paras c = search rules

@@ -1,7 +1,6 @@
 use Rattle.std.proofs.Common.{ℕ, ◌+◌, sym, ap, ◌∙◌, arith, List, set, refl, get_or}
 use Rattle.client_world.specs.{World.{World}, declared.memory_map.TheConstants.{IMAGE_START}}
-use Rattle.guest_ram.specs.{Bytes.{put}, Listed.{listed}}
-use Rattle.mz_loader.proofs.Relocating.{dos_only, put_more, put_none, below_rom}
+use Rattle.{guest_ram.specs.{Bytes.{put}, Listed.{listed}}, mz_loader.proofs.Relocating.{dos_only, put_more, put_none, below_rom}}
 use Rattle.mz_loader.proofs.image.write_part.Goals as goal
 
 pub loop-i-init : goal.loop-i-init

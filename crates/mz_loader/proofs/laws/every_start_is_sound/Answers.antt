@@ -1,5 +1,4 @@
-use Rattle.mz_loader.proofs.SoundStart.{sound_start}
-use Rattle.mz_loader.proofs.laws.every_start_is_sound.Goals as goal
+use Rattle.mz_loader.proofs.{SoundStart.{sound_start}, laws.every_start_is_sound.Goals.{returns as goal}}
 
-pub returns : goal.returns
+pub returns : goal
 returns c = sound_start

@@ -1,5 +1,4 @@
-use Rattle.std.proofs.Common.{rules}
-use Rattle.mz_loader.proofs.reasons.has_bad_entry.Goals as goal
+use Rattle.{std.proofs.Common.{rules}, mz_loader.proofs.reasons.has_bad_entry.Goals.{returns-else-entry as goal}}
 
-pub returns-else-entry : goal.returns-else-entry
+pub returns-else-entry : goal
 returns-else-entry c = search rules

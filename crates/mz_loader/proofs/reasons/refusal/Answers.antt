@@ -1,7 +1,6 @@
-use Rattle.std.proofs.Common.{rules}
-use Rattle.mz_loader.specs.Refusal.{refusal}
-use Rattle.mz_loader.proofs.reasons.refusal.Goals as goal
+use Rattle.{std.proofs.Common.{rules}, mz_loader.specs.Refusal.{refusal}}
+use Rattle.mz_loader.proofs.reasons.refusal.Goals.{returns-then-has_bad_table-clause-reason as goal}
 
-pub returns-then-has_bad_table-clause-reason : goal.returns-then-has_bad_table-clause-reason
+pub returns-then-has_bad_table-clause-reason : goal
 unfolding refusal
 returns-then-has_bad_table-clause-reason c = search rules

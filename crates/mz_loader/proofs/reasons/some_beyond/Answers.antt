@@ -1,5 +1,4 @@
-use Rattle.std.proofs.Common.{sym, ◌∙◌, arith}
-use Rattle.mz_loader.proofs.Relocating.{some_beyond_here, some_beyond_next, some_beyond_end}
+use Rattle.{std.proofs.Common.{sym, ◌∙◌, arith}, mz_loader.proofs.Relocating.{some_beyond_here, some_beyond_next, some_beyond_end}}
 use Rattle.mz_loader.proofs.reasons.some_beyond.Goals as goal
 
 pub returns-then-limit-relocation_target : goal.returns-then-limit-relocation_target

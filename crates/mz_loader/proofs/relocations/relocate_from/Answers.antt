@@ -1,5 +1,4 @@
-use Rattle.std.proofs.Common.{ℕ, ◌+◌, ◌-◌, ◌*◌, sym, ap, ◌∙◌, arith, List}
-use Rattle.client_world.specs.World.{World}
+use Rattle.{std.proofs.Common.{ℕ, ◌+◌, ◌-◌, ◌*◌, sym, ap, ◌∙◌, arith, List}, client_world.specs.World.{World}}
 use Rattle.mz_loader.specs.Start.{after_relocation, after_relocations}
 use Rattle.mz_loader.proofs.Relocating.{some_beyond_next, within_limit, all_relocated_next, all_relocated_end, dos_only}
 use Rattle.mz_loader.proofs.relocations.relocate_from.Goals as goal

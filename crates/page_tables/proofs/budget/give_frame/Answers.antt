@@ -1,7 +1,6 @@
-use Rattle.page_tables.proofs.FreeFrames.{frame_given}
-use Rattle.page_tables.proofs.budget.give_frame.Goals as goal
+use Rattle.page_tables.proofs.{FreeFrames.{frame_given}, budget.give_frame.Goals.{returns-clause-list as goal}}
 
-pub returns-clause-list : goal.returns-clause-list
+pub returns-clause-list : goal
 returns-clause-list c =
     frame_given c.args.ram.now c.set32.new.self c.set32-2.new.self c.set8.new.self c.args.frame c.get32-head.result
     c.taken_place-place.result c.requires.frames

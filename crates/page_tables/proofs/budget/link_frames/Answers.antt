@@ -1,5 +1,4 @@
-use Rattle.std.proofs.Common.{◌+◌, ◌-◌, ◌/◌, arith}
-use Rattle.client_world.specs.declared.host_frames.TheConstants.{PAGE_SIZE}
+use Rattle.{std.proofs.Common.{◌+◌, ◌-◌, ◌/◌, arith}, client_world.specs.declared.host_frames.TheConstants.{PAGE_SIZE}}
 use Rattle.page_tables.proofs.FreeFrames.{all_linked, one_linked}
 use Rattle.page_tables.proofs.budget.link_frames.Goals as goal
 

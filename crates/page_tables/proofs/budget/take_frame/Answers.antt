@@ -1,5 +1,4 @@
-use Rattle.std.proofs.Common.{refl, sym, ◌∙◌}
-use Rattle.page_tables.proofs.FreeFrames.{all_are_taken, head_in_budget, head_taken}
+use Rattle.{std.proofs.Common.{refl, sym, ◌∙◌}, page_tables.proofs.FreeFrames.{all_are_taken, head_in_budget, head_taken}}
 use Rattle.page_tables.proofs.budget.take_frame.Goals as goal
 
 pub returns-then-frame-eq0-clause-none : goal.returns-then-frame-eq0-clause-none

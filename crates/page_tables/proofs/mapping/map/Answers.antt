@@ -1,5 +1,4 @@
-use Rattle.std.proofs.Common.{arith}
-use Rattle.page_tables.specs.Entry.{page_entry}
+use Rattle.{std.proofs.Common.{arith}, page_tables.specs.Entry.{page_entry}}
 use Rattle.page_tables.proofs.MapLaws.{HasTables-with_entry, IsMapped-with_entry, EndsInFrame-with_entry, KeepsOtherPages-with_entry}
 use Rattle.page_tables.proofs.mapping.map.Goals as goal
 

@@ -1,5 +1,4 @@
-use Rattle.std.proofs.Common.{rules}
-use Rattle.page_tables.proofs.translation.directory_of.Goals as goal
+use Rattle.{std.proofs.Common.{rules}, page_tables.proofs.translation.directory_of.Goals.{returns as goal}}
 
-pub returns : goal.returns
+pub returns : goal
 returns c = search rules

@@ -1,8 +1,7 @@
 use Rattle.std.proofs.Common.{arith, ap, length}
-use Rattle.pair_run.proofs.OwnRuns.{client_of, no_shorter}
-use Rattle.pair_run.proofs.slices.make_slice.Goals as goal
+use Rattle.pair_run.proofs.{OwnRuns.{client_of, no_shorter}, slices.make_slice.Goals.{rest_from-requires as goal}}
 
-pub rest_from-requires : goal.rest_from-requires
+pub rest_from-requires : goal
 rest_from-requires g c =
     let more = no_shorter (client_of g.met.T.Turns.ended_stays g.met.T.Turns.turn_is_counted g.met.T.Turns.console_extends)
     (g.T.Turns.world c.args.client.now) c.args.turns in

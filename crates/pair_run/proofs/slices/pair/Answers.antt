@@ -1,6 +1,4 @@
-use Rattle.std.proofs.Common.{arith, sym, subst}
-use Rattle.std.specs.Prelude.{IsSome}
-use Rattle.client_world.specs.declared.outcome.Exit.TheVariants.{Bound}
+use Rattle.{std.proofs.Common.{arith, sym, subst}, std.specs.Prelude.{IsSome}, client_world.specs.declared.outcome.Exit.TheVariants.{Bound}}
 use Rattle.dpmi_io.proofs.Output.{puts_cut, puts_returned, puts_then}
 use Rattle.pair_run.proofs.{OwnRuns.{client_of, closed_ends, room, run_ends, turns_none}, PairTexts.{when_err}}
 use Rattle.pair_run.proofs.slices.pair.Goals as goal

@@ -1,5 +1,4 @@
-use Rattle.std.proofs.Common.{sym, ◌∙◌}
-use Rattle.dpmi_io.proofs.Output.{puts_cut, puts_cut_early, puts_text, puts_then}
+use Rattle.{std.proofs.Common.{sym, ◌∙◌}, dpmi_io.proofs.Output.{puts_cut, puts_cut_early, puts_text, puts_then}}
 use Rattle.pair_run.proofs.PairTexts.{line_if_any-text}
 use Rattle.pair_run.proofs.slices.put_slice.Goals as goal
 

@@ -1,5 +1,4 @@
-use Rattle.std.proofs.Common.{arith, refl, sym, subst, ap, ◌∙◌, ◌≡◌, ◌≤◌, ◌+◌}
-use Rattle.dpmi_io.specs.Causes.{Rose}
+use Rattle.{std.proofs.Common.{arith, refl, sym, subst, ap, ◌∙◌, ◌≡◌, ◌≤◌, ◌+◌}, dpmi_io.specs.Causes.{Rose}}
 use Rattle.dpmi_io.proofs.Output.{puts_done, puts_failed}
 use Rattle.pair_run.specs.{declared.lines.Letter.TheVariants.{A, B}, Run.{turns_of}, Slices.{own_run}}
 use Rattle.pair_run.proofs.{OwnRuns.{client_of, over, room, turns_none}, PairTexts.{Made, a_failed, b_failed, line_failed, line_gained}}

@@ -1,5 +1,4 @@
-use Rattle.service_rows.specs.Reasons.{first_reason}
-use Rattle.service_rows.proofs.AnswerLaws.{refused_answer, refused_by_family}
+use Rattle.{service_rows.specs.Reasons.{first_reason}, service_rows.proofs.AnswerLaws.{refused_answer, refused_by_family}}
 use Rattle.service_rows.proofs.laws.every_refusal_changes_ax_alone.Goals as goal
 
 pub returns-clause-service : goal.returns-clause-service

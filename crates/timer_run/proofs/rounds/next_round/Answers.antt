@@ -5,8 +5,7 @@ use Rattle.host_run.specs.{Footprint.{ChangesOnly}, MakesTurn.{turn_answer}, Win
 use Rattle.host_run.proofs.{Runs.{by_exit}, Touches.{kept}, WindowStarts.{no_starts}}
 use Rattle.timer_run.specs.{Rounds.{MakesRound, round_footprint, timed}, Timer.{TimerState, timer_answer, timer_footprint, timer_part}}
 use Rattle.timer_run.proofs.RoundParts.{answered_exit, answered_on, part_every, part_steps, exit_made, interrupt_made, turn_changes}
-use Rattle.timer_run.proofs.RoundParts.{turn_from, turn_made}
-use Rattle.watch_run.specs.Turn.{watch_footprint}
+use Rattle.{timer_run.proofs.RoundParts.{turn_from, turn_made}, watch_run.specs.Turn.{watch_footprint}}
 use Rattle.timer_run.proofs.rounds.next_round.Goals as goal
 
 -- ---- the round is the interrupt

@@ -1,11 +1,8 @@
-use Rattle.std.proofs.Common.{arith, refl, sym}
-use Rattle.client_world.specs.WatchWorld.{WatchWorld}
-use Rattle.host_run.proofs.Touches.{kept}
+use Rattle.{std.proofs.Common.{arith, refl, sym}, client_world.specs.WatchWorld.{WatchWorld}, host_run.proofs.Touches.{kept}}
 use Rattle.timer_run.specs.Rounds.{round_footprint, timed}
-use Rattle.timer_run.proofs.RoundParts.{round_over}
-use Rattle.timer_run.proofs.rounds.round_with_timer.Goals as goal
+use Rattle.timer_run.proofs.{RoundParts.{round_over}, rounds.round_with_timer.Goals.{returns-in-Some-clause-round as goal}}
 
-pub returns-in-Some-clause-round : goal.returns-in-Some-clause-round
+pub returns-in-Some-clause-round : goal
 returns-in-Some-clause-round c =
     let t = c.args.timer.now in
     let w : WatchWorld = record { host = c.args.host.now.world; watching = c.args.watches.now } in

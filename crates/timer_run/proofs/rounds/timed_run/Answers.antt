@@ -1,8 +1,5 @@
-use Rattle.std.proofs.Common.{arith, ◌∙◌, ap, refl, sym}
-use Rattle.host_run.proofs.WindowStarts.{no_starts}
-use Rattle.host_run.specs.View.{HostView}
-use Rattle.timer_run.specs.Timer.{TimerState}
-use Rattle.timer_run.proofs.RoundParts.{run_bounded, run_ended, run_goes_on, run_over, run_starts}
+use Rattle.{std.proofs.Common.{arith, ◌∙◌, ap, refl, sym}, host_run.proofs.WindowStarts.{no_starts}, host_run.specs.View.{HostView}}
+use Rattle.{timer_run.specs.Timer.{TimerState}, timer_run.proofs.RoundParts.{run_bounded, run_ended, run_goes_on, run_over, run_starts}}
 use Rattle.timer_run.proofs.rounds.timed_run.Goals as goal
 
 pub returns-in-Some-clause-world : goal.returns-in-Some-clause-world

@@ -1,7 +1,6 @@
-use Rattle.std.proofs.Common.{rules}
-use Rattle.translation.specs.SimulatedCall.{callee_world}
-use Rattle.translation.proofs.calling.enter.Goals as goal
+use Rattle.{std.proofs.Common.{rules}, translation.specs.SimulatedCall.{callee_world}}
+use Rattle.translation.proofs.calling.enter.Goals.{returns as goal}
 
-pub returns : goal.returns
+pub returns : goal
 unfolding callee_world
 returns c = search rules

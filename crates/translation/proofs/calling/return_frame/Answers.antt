@@ -1,5 +1,4 @@
-use Rattle.std.proofs.Common.{rules}
-use Rattle.translation.proofs.calling.return_frame.Goals as goal
+use Rattle.{std.proofs.Common.{rules}, translation.proofs.calling.return_frame.Goals.{returns-in-Far-clause-words as goal}}
 
-pub returns-in-Far-clause-words : goal.returns-in-Far-clause-words
+pub returns-in-Far-clause-words : goal
 returns-in-Far-clause-words c = search rules

@@ -1,8 +1,7 @@
 use Rattle.std.proofs.Common.{arith}
-use Rattle.translation.proofs.StackWords.{readable_more, words_more}
-use Rattle.translation.proofs.client_words.add_client_words.Goals as goal
+use Rattle.translation.proofs.{StackWords.{readable_more, words_more}, client_words.add_client_words.Goals.{loop-k-preserved as goal}}
 
-pub loop-k-preserved : goal.loop-k-preserved
+pub loop-k-preserved : goal
 loop-k-preserved c =
     let w = c.args.m.now.world in
     let inside = c.loop-k-test.true in

@@ -1,5 +1,4 @@
-use Rattle.translation.proofs.SoundCalls.{sound_begin, sound_reflect, sound_end}
-use Rattle.translation.proofs.laws.every_call_is_sound.Goals as goal
+use Rattle.translation.proofs.{SoundCalls.{sound_begin, sound_reflect, sound_end}, laws.every_call_is_sound.Goals.{returns as goal}}
 
-pub returns : goal.returns
+pub returns : goal
 returns c = record { begin = sound_begin; reflect = sound_reflect; end = sound_end }

@@ -1,7 +1,6 @@
-use Rattle.std.proofs.Common.{rules}
-use Rattle.translation.specs.SimulatedCall.{end_call}
-use Rattle.translation.proofs.returning.end.Goals as goal
+use Rattle.{std.proofs.Common.{rules}, translation.specs.SimulatedCall.{end_call}}
+use Rattle.translation.proofs.returning.end.Goals.{returns-then-not-has_structure as goal}
 
-pub returns-then-not-has_structure : goal.returns-then-not-has_structure
+pub returns-then-not-has_structure : goal
 unfolding end_call
 returns-then-not-has_structure c = search rules

@@ -1,6 +1,5 @@
-use Rattle.std.proofs.Common.{rules}
-use Rattle.guest_space.proofs.RecordWrites.{has_width}
-use Rattle.translation.proofs.returning.go_on.Goals as goal
+use Rattle.{std.proofs.Common.{rules}, guest_space.proofs.RecordWrites.{has_width}}
+use Rattle.translation.proofs.returning.go_on.Goals.{returns as goal}
 
-pub returns : goal.returns
+pub returns : goal
 returns c = search (rules, has_width)

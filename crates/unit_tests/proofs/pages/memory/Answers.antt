@@ -1,11 +1,8 @@
 use Rattle.std.proofs.Common.{◌≡◌, ℕ, ◌+◌, ◌*◌, ◌≤◌, inl, List, length, get_or, refl, ◌∙◌, arith}
 use Rattle.client_world.specs.declared.host_frames.TheConstants.{PAGE_SIZE, BUDGET_FRAMES}
-use Rattle.guest_ram.specs.Bytes.{put, dword, dword_bytes}
-use Rattle.guest_ram.proofs.PutLaws.{length-put, dword_put, dword_put_other}
-use Rattle.page_tables.specs.Mapping.{HasTables, IsCovered, IsUnmapped}
-use Rattle.unit_tests.specs.declared.pages.TheConstants.{PAGE}
-use Rattle.page_tables.proofs.HostDirectory.{dword_zero}
-use Rattle.unit_tests.proofs.FirstTables.{one_table}
+use Rattle.{guest_ram.specs.Bytes.{put, dword, dword_bytes}, guest_ram.proofs.PutLaws.{length-put, dword_put, dword_put_other}}
+use Rattle.{page_tables.specs.Mapping.{HasTables, IsCovered, IsUnmapped}, unit_tests.specs.declared.pages.TheConstants.{PAGE}}
+use Rattle.{page_tables.proofs.HostDirectory.{dword_zero}, unit_tests.proofs.FirstTables.{one_table}}
 use Rattle.unit_tests.proofs.pages.memory.Goals as goal
 
 -- a zero memory with that directory entry

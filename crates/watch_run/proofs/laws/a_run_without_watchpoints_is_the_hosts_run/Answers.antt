@@ -1,5 +1,4 @@
-use Rattle.watch_run.proofs.Runs.{plain_run}
-use Rattle.watch_run.proofs.laws.a_run_without_watchpoints_is_the_hosts_run.Goals as goal
+use Rattle.watch_run.proofs.{Runs.{plain_run}, laws.a_run_without_watchpoints_is_the_hosts_run.Goals.{returns as goal}}
 
-pub returns : goal.returns
+pub returns : goal
 returns c = plain_run

@@ -1,5 +1,4 @@
-use Rattle.watch_run.proofs.WatchedTurns.{touches_held}
-use Rattle.watch_run.proofs.laws.every_touch_of_a_watched_turn_is_held.Goals as goal
+use Rattle.watch_run.proofs.{WatchedTurns.{touches_held}, laws.every_touch_of_a_watched_turn_is_held.Goals.{returns as goal}}
 
-pub returns : goal.returns
+pub returns : goal
 returns c = touches_held c.every_touch_is_held.ensures

@@ -1,7 +1,7 @@
 use Rattle.watch_run.proofs.WatchedTurns.{run_sound_host, turn_has_keys, turn_sound, turns_have_keys, turns_sound, turns_sound_host}
-use Rattle.watch_run.proofs.laws.every_watched_turn_is_sound.Goals as goal
+use Rattle.watch_run.proofs.laws.every_watched_turn_is_sound.Goals.{returns as goal}
 
-pub returns : goal.returns
+pub returns : goal
 returns c = record {
   turn = turn_sound;
   keys = turn_has_keys;

@@ -1,5 +1,4 @@
-use Rattle.std.proofs.Common.{rules}
-use Rattle.watch_run.proofs.services.watch_kind.Goals as goal
+use Rattle.{std.proofs.Common.{rules}, watch_run.proofs.services.watch_kind.Goals.{returns-in-1 as goal}}
 
-pub returns-in-1 : goal.returns-in-1
+pub returns-in-1 : goal
 returns-in-1 c = search rules

@@ -1,5 +1,4 @@
-use Rattle.std.proofs.Common.{rules}
-use Rattle.watch_run.proofs.turn.delivers_hit.Goals as goal
+use Rattle.{std.proofs.Common.{rules}, watch_run.proofs.turn.delivers_hit.Goals.{returns-in-Real as goal}}
 
-pub returns-in-Real : goal.returns-in-Real
+pub returns-in-Real : goal
 returns-in-Real c = search rules

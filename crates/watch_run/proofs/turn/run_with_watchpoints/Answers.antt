@@ -1,8 +1,5 @@
-use Rattle.std.proofs.Common.{arith, refl, sym, ◌∙◌, ap}
-use Rattle.client_world.specs.WatchWorld.{WatchWorld}
-use Rattle.host_run.specs.View.{HostView}
-use Rattle.host_run.proofs.WindowStarts.{no_starts}
-use Rattle.watch_run.specs.Turn.{turn_with_watchpoints, turns_with_watchpoints}
+use Rattle.{std.proofs.Common.{arith, refl, sym, ◌∙◌, ap}, client_world.specs.WatchWorld.{WatchWorld}, host_run.specs.View.{HostView}}
+use Rattle.{host_run.proofs.WindowStarts.{no_starts}, watch_run.specs.Turn.{turn_with_watchpoints, turns_with_watchpoints}}
 use Rattle.watch_run.proofs.{Runs.{run_ended, run_over}, WatchedTurns.{one_more}}
 use Rattle.watch_run.proofs.turn.run_with_watchpoints.Goals as goal
 

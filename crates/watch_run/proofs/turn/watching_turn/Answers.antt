@@ -1,5 +1,4 @@
-use Rattle.std.proofs.Common.{rules}
-use Rattle.watch_run.specs.Turn.{turn_with_watchpoints}
+use Rattle.{std.proofs.Common.{rules}, watch_run.specs.Turn.{turn_with_watchpoints}}
 use Rattle.watch_run.proofs.turn.watching_turn.Goals as goal
 
 pub returns-clause-window : goal.returns-clause-window

@@ -1,5 +1,4 @@
-use Rattle.std.proofs.Common.{rules}
-use Rattle.client_world.proofs.registers.Flags.image.Goals as goal
+use Rattle.{std.proofs.Common.{rules}, client_world.proofs.registers.Flags.image.Goals.{returns as goal}}
 
-pub returns : goal.returns
+pub returns : goal
 returns c = search rules

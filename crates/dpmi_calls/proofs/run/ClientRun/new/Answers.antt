@@ -1,10 +1,7 @@
-use Rattle.std.proofs.Common.{arith, ◌∙◌, ap, refl}
-use Rattle.client_world.specs.World.{HostWorld}
-use Rattle.host_run.proofs.WindowStarts.{no_starts}
-use Rattle.dpmi_calls.proofs.Starts.{started}
-use Rattle.dpmi_calls.proofs.run.ClientRun.new.Goals as goal
+use Rattle.{std.proofs.Common.{arith, ◌∙◌, ap, refl}, client_world.specs.World.{HostWorld}, host_run.proofs.WindowStarts.{no_starts}}
+use Rattle.dpmi_calls.proofs.{Starts.{started}, run.ClientRun.new.Goals.{returns-clause-run as goal}}
 
-pub returns-clause-run : goal.returns-clause-run
+pub returns-clause-run : goal
 returns-clause-run c = record {
   timer = c.timer_of.ensures.every ∙ c.timer_given.ensures;
   world = started c.args.client _ _ (c.timer_of.ensures.new _) c.new.ensures c.requires.host;

@@ -1,5 +1,4 @@
-use Rattle.std.proofs.Common.{refl}
-use Rattle.dpmi_calls.proofs.Starts.{stepped_plain, stepped_timed}
+use Rattle.{std.proofs.Common.{refl}, dpmi_calls.proofs.Starts.{stepped_plain, stepped_timed}}
 use Rattle.dpmi_calls.proofs.run.ClientRun.next.Goals as goal
 
 pub returns-in-Ok-clause-run : goal.returns-in-Ok-clause-run

@@ -1,6 +1,4 @@
-use Rattle.std.proofs.Common.{◌∙◌, ap, nat_eq, sym, true, false}
-use Rattle.std.specs.List.{position}
-use Rattle.dpmi_calls.specs.Stops.{wanted_in}
+use Rattle.{std.proofs.Common.{◌∙◌, ap, nat_eq, sym, true, false}, std.specs.List.{position}, dpmi_calls.specs.Stops.{wanted_in}}
 use Rattle.dpmi_calls.proofs.StopLists.{at_no_place, unchanged}
 use Rattle.dpmi_calls.proofs.wanted.Wanted.reason.Goals as goal
 

@@ -1,9 +1,5 @@
-use Rattle.std.proofs.Common.{arith, refl, sym, subst, ◌+◌}
-use Rattle.std.specs.Prelude.{IsSome}
-use Rattle.client_world.specs.WatchWorld.{WatchWorld}
-use Rattle.host_run.proofs.WindowStarts.{no_starts}
-use Rattle.pair_run.proofs.OwnRuns.{turns_none}
-use Rattle.watch_run.specs.Turn.{turn_with_watchpoints}
+use Rattle.{std.proofs.Common.{arith, refl, sym, subst, ◌+◌}, std.specs.Prelude.{IsSome}, client_world.specs.WatchWorld.{WatchWorld}}
+use Rattle.{host_run.proofs.WindowStarts.{no_starts}, pair_run.proofs.OwnRuns.{turns_none}, watch_run.specs.Turn.{turn_with_watchpoints}}
 use Rattle.dpmi_cli.proofs.RunAnswers.{all_turns, next_turn}
 use Rattle.dpmi_cli.proofs.watched_host.WatchedHostTurns.go.Goals as goal
 

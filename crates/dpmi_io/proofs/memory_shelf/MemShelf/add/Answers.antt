@@ -1,16 +1,14 @@
 use Rattle.std.proofs.Common.{◌≡◌, ◌∙◌, ap, string_bytes, List, ℕ}
 use Rattle.dpmi_io.specs.{MemShelf.{FileMap, MemShelfState, after_add}, StoredFiles.{open_at}}
-use Rattle.dpmi_io.specs.declared.memory_shelf.MemShelf.TheInside.{Inside}
-use Rattle.std.specs.Option.{option_map}
-use Rattle.dpmi_io.proofs.Stored.{files_of-insert}
-use Rattle.dpmi_io.proofs.memory_shelf.MemShelf.add.Goals as goal
+use Rattle.{dpmi_io.specs.declared.memory_shelf.MemShelf.TheInside.{Inside}, std.specs.Option.{option_map}}
+use Rattle.dpmi_io.proofs.{Stored.{files_of-insert}, memory_shelf.MemShelf.add.Goals.{returns-clause-ok as goal}}
 
 -- the shelf as it is stored, but for its files
 abbrev with_files : Inside → FileMap → MemShelfState
 with_files s files =
     record { files = files; current = option_map open_at s.current; blamed = option_map string_bytes s.blamed; plan = s.plan }
 
-pub returns-clause-ok : goal.returns-clause-ok
+pub returns-clause-ok : goal
 returns-clause-ok c =
     let name = c.in_ok-name.name in
     let bytes = c.in_ok-bytes.bytes in

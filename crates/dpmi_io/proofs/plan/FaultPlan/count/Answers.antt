@@ -1,5 +1,4 @@
-use Rattle.std.proofs.Common.{rules}
-use Rattle.dpmi_io.proofs.plan.FaultPlan.count.Goals as goal
+use Rattle.{std.proofs.Common.{rules}, dpmi_io.proofs.plan.FaultPlan.count.Goals.{returns-clause-listed as goal}}
 
-pub returns-clause-listed : goal.returns-clause-listed
+pub returns-clause-listed : goal
 returns-clause-listed c = search rules

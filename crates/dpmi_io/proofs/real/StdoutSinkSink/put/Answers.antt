@@ -1,5 +1,4 @@
-use Rattle.std.proofs.Common.{rules}
-use Rattle.dpmi_io.proofs.real.StdoutSinkSink.put.Goals as goal
+use Rattle.{std.proofs.Common.{rules}, dpmi_io.proofs.real.StdoutSinkSink.put.Goals.{returns-in-Ok-clause-bound as goal}}
 
-pub returns-in-Ok-clause-bound : goal.returns-in-Ok-clause-bound
+pub returns-in-Ok-clause-bound : goal
 returns-in-Ok-clause-bound g c = search rules

@@ -1,5 +1,4 @@
-use Rattle.std.proofs.Common.{rules}
-use Rattle.dpmi_io.proofs.sure.SureShelfShelf.read.Goals as goal
+use Rattle.{std.proofs.Common.{rules}, dpmi_io.proofs.sure.SureShelfShelf.read.Goals.{returns-clause-bytes as goal}}
 
-pub returns-clause-bytes : goal.returns-clause-bytes
+pub returns-clause-bytes : goal
 returns-clause-bytes c = search rules

@@ -1,10 +1,7 @@
-use Rattle.std.proofs.Common.{◌≡◌, ◌∙◌, sym, ap, Ok}
-use Rattle.host_memory.specs.View.{MachineView}
-use Rattle.insn_plan.specs.Registers.{register}
-use Rattle.exec_core.proofs.OnRegisters.{compare_on}
-use Rattle.exec_core.proofs.arithmetic.ComparisonShapedRow.on_register.Goals as goal
+use Rattle.{std.proofs.Common.{◌≡◌, ◌∙◌, sym, ap, Ok}, host_memory.specs.View.{MachineView}, insn_plan.specs.Registers.{register}}
+use Rattle.exec_core.proofs.{OnRegisters.{compare_on}, arithmetic.ComparisonShapedRow.on_register.Goals.{returns as goal}}
 
-pub returns : goal.returns
+pub returns : goal
 returns g c =
     let a = c.register-a.result in
     let is : a ≡ register c.args.m.now.world.regs g.row.W c.args.n = cc in

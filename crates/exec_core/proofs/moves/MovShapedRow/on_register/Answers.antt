@@ -1,9 +1,7 @@
-use Rattle.std.proofs.Common.{◌∙◌, sym, ap, Ok}
-use Rattle.host_memory.specs.View.{MachineView}
-use Rattle.exec_core.proofs.OnRegisters.{mov_on}
-use Rattle.exec_core.proofs.moves.MovShapedRow.on_register.Goals as goal
+use Rattle.{std.proofs.Common.{◌∙◌, sym, ap, Ok}, host_memory.specs.View.{MachineView}}
+use Rattle.exec_core.proofs.{OnRegisters.{mov_on}, moves.MovShapedRow.on_register.Goals.{returns as goal}}
 
-pub returns : goal.returns
+pub returns : goal
 returns g c =
     mov_on c.args.m.now c.args.i.now g.row.W c.args.n c.args.b c.requires.operands
     ∙ ap (λ (v : MachineView). Ok v) (sym c.put_register.ensures)

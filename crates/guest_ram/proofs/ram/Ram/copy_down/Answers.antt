@@ -1,6 +1,5 @@
 use Rattle.std.proofs.Common.{◌≡◌, ◌+◌, ◌-◌, ◌<◌, ◌≤◌, ℕ, List, length, get_or, refl, sym, ap, ◌∙◌, set, arith}
-use Rattle.guest_ram.specs.Bytes.{put, region}
-use Rattle.guest_ram.proofs.PutLaws.{put_below, no_region, moved_down}
+use Rattle.{guest_ram.specs.Bytes.{put, region}, guest_ram.proofs.PutLaws.{put_below, no_region, moved_down}}
 use Rattle.guest_ram.proofs.ram.Ram.copy_down.Goals as goal
 
 -- the byte that is read is still as it was: k are left, and the last of them is j

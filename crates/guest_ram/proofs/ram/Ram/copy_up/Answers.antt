@@ -1,6 +1,5 @@
 use Rattle.std.proofs.Common.{◌≡◌, ◌+◌, ◌<◌, ◌≤◌, ℕ, List, length, get_or, refl, sym, ap, ◌∙◌, set, arith}
-use Rattle.guest_ram.specs.Bytes.{put, region}
-use Rattle.guest_ram.proofs.PutLaws.{put_above, length-region, no_region, moved_up}
+use Rattle.{guest_ram.specs.Bytes.{put, region}, guest_ram.proofs.PutLaws.{put_above, length-region, no_region, moved_up}}
 use Rattle.guest_ram.proofs.ram.Ram.copy_up.Goals as goal
 
 -- the byte that is read is still as it was

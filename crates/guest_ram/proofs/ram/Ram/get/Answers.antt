@@ -1,6 +1,5 @@
 use Rattle.std.proofs.Common.{◌≡◌, ◌+◌, ◌<◌, ◌++◌, ℕ, List, [], ◌∷◌, length, get_or, sym, ap, ◌∙◌, set, take, arith, length-set, add-one}
-use Rattle.std.proofs.{Math.Seq.{take-suc-set}, lemmas.List.{length-replicate, take_all}}
-use Rattle.guest_ram.specs.Bytes.{region}
+use Rattle.{std.proofs.{Math.Seq.{take-suc-set}, lemmas.List.{length-replicate, take_all}}, guest_ram.specs.Bytes.{region}}
 use Rattle.guest_ram.proofs.PutLaws.{no_bytes, region_more}
 use Rattle.guest_ram.proofs.ram.Ram.get.Goals as goal
 

@@ -1,7 +1,5 @@
 use Rattle.std.proofs.Common.{◌≡◌, ℕ, ◌*◌, List, length, get_or, zero, suc, replicate, refl, ap, ◌∙◌, mul_comm, IfOk, Ok, Err, Result}
-use Rattle.std.specs.declared.alloc.AllocError.{AllocError}
-use Rattle.guest_ram.specs.Listed.{zeros}
-use Rattle.guest_ram.proofs.ListedLaws.{length-zeros}
+use Rattle.{std.specs.declared.alloc.AllocError.{AllocError}, guest_ram.specs.Listed.{zeros}, guest_ram.proofs.ListedLaws.{length-zeros}}
 use Rattle.guest_ram.proofs.ram.Ram.new.Goals as goal
 
 sized : (r : Result (List ℕ) AllocError) (m : ℕ) → IfOk r (λ ram. ram ≡ zeros (4096 * m)) → IfOk r (λ ram. length ram ≡ m * 4096)

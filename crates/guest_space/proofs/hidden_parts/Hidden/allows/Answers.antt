@@ -1,5 +1,4 @@
-use Rattle.std.proofs.Common.{rules}
-use Rattle.guest_space.proofs.hidden_parts.Hidden.allows.Goals as goal
+use Rattle.{std.proofs.Common.{rules}, guest_space.proofs.hidden_parts.Hidden.allows.Goals.{returns-else-is_data_with as goal}}
 
-pub returns-else-is_data_with : goal.returns-else-is_data_with
+pub returns-else-is_data_with : goal
 returns-else-is_data_with c = search rules

@@ -1,5 +1,4 @@
-use Rattle.std.proofs.Common.{◌∙◌, sym, ap, refl, arith, List, get_or}
-use Rattle.client_world.specs.declared.dos_memory.DosEntry.{DosEntry}
+use Rattle.{std.proofs.Common.{◌∙◌, sym, ap, refl, arith, List, get_or}, client_world.specs.declared.dos_memory.DosEntry.{DosEntry}}
 use Rattle.host_memory.specs.Layout.{arena_part}
 use Rattle.guest_space.proofs.{ArenaLists.{few_entries, entry_there}, ArenaWrites.{arena_of, count_of}, Insides.{processor_of}}
 use Rattle.guest_space.proofs.machine.Machine.arena.Goals as goal

@@ -1,8 +1,6 @@
 use Rattle.std.proofs.Common.{◌≡◌, ◌+◌, ◌*◌, ◌≤◌, ◌∙◌, ℕ, ap, subst, arith, List, length}
 use Rattle.client_world.specs.{declared.host_frames.TheConstants.{DOS_LIST, PAGE_SIZE}, declared.dos_memory.DosEntry.{DosEntry}}
-use Rattle.client_world.specs.DosMemory.{IsArena}
-use Rattle.guest_ram.specs.Bytes.{put}
-use Rattle.host_memory.specs.Headers.{with_headers}
+use Rattle.{client_world.specs.DosMemory.{IsArena}, guest_ram.specs.Bytes.{put}, host_memory.specs.Headers.{with_headers}}
 use Rattle.guest_space.specs.{Arena.{arena_bytes, with_replaced_entries}, DosRuns.{rows_of_run, with_run_bytes}}
 use Rattle.guest_space.proofs.{DosRunCalls.{put_there, run_machine}, ArenaWrites.{arena_of, entries_holds, with_arena}}
 use Rattle.guest_space.proofs.Insides.{processor_of}

@@ -1,6 +1,5 @@
 use Rattle.std.proofs.Common.{◌∙◌, ◌+◌, ◌*◌, ◌/◌, ℕ, ap}
-use Rattle.client_world.specs.declared.host_frames.TheConstants.{PAGE_SIZE, BLOCK_TABLES, PAGE_ENTRY_SIZE}
-use Rattle.guest_ram.specs.Bytes.{dword}
+use Rattle.{client_world.specs.declared.host_frames.TheConstants.{PAGE_SIZE, BLOCK_TABLES, PAGE_ENTRY_SIZE}, guest_ram.specs.Bytes.{dword}}
 use Rattle.guest_space.proofs.{BlockCalls.{may_read, reads_byte}, Insides.{processor_of}}
 use Rattle.guest_space.proofs.machine.Machine.block8.Goals as goal
 

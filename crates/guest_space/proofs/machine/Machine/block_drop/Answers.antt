@@ -1,6 +1,4 @@
-use Rattle.std.proofs.Common.{refl, arith, ap, None}
-use Rattle.client_world.specs.World.{World}
-use Rattle.block_memory.proofs.SizedSound.{some_width}
+use Rattle.{std.proofs.Common.{refl, arith, ap, None}, client_world.specs.World.{World}, block_memory.proofs.SizedSound.{some_width}}
 use Rattle.guest_space.specs.Machines.{held_world}
 use Rattle.guest_space.proofs.{BlockCalls.{block_call, held_before_drop, may_drop}, Insides.{processor_of}}
 use Rattle.guest_space.proofs.machine.Machine.block_drop.Goals as goal

@@ -1,5 +1,4 @@
-use Rattle.std.proofs.Common.{◌-◌, arith, Some}
-use Rattle.client_world.specs.World.{block_at}
+use Rattle.{std.proofs.Common.{◌-◌, arith, Some}, client_world.specs.World.{block_at}}
 use Rattle.block_memory.specs.BlockSizes.{block_with_zero_pages, fresh_block}
 use Rattle.guest_space.proofs.{BlockCalls.{block_call, held_after_make, made_block, may_make}, Insides.{processor_of}}
 use Rattle.guest_space.proofs.machine.Machine.block_make.Goals as goal

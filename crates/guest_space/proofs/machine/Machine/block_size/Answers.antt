@@ -1,8 +1,5 @@
-use Rattle.std.proofs.Common.{refl}
-use Rattle.client_world.specs.World.{block_at}
-use Rattle.block_memory.specs.BlockSizes.{sized_block}
-use Rattle.block_memory.proofs.SizedSound.{some_width}
-use Rattle.guest_space.proofs.{BlockCalls.{block_call, may_size}, Insides.{processor_of}}
+use Rattle.{std.proofs.Common.{refl}, client_world.specs.World.{block_at}, block_memory.specs.BlockSizes.{sized_block}}
+use Rattle.{block_memory.proofs.SizedSound.{some_width}, guest_space.proofs.{BlockCalls.{block_call, may_size}, Insides.{processor_of}}}
 use Rattle.guest_space.proofs.machine.Machine.block_size.Goals as goal
 
 pub resize_block-requires : goal.resize_block-requires

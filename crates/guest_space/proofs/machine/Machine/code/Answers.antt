@@ -1,5 +1,4 @@
-use Rattle.std.proofs.Common.{◌∙◌, sym, arith, length-append}
-use Rattle.host_memory.proofs.Parts.{regs_is}
+use Rattle.{std.proofs.Common.{◌∙◌, sym, arith, length-append}, host_memory.proofs.Parts.{regs_is}}
 use Rattle.guest_space.proofs.Codes.{whole_code, more_code, code_ends, code_full}
 use Rattle.guest_space.proofs.machine.Machine.code.Goals as goal
 

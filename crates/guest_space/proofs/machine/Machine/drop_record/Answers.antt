@@ -1,5 +1,4 @@
-use Rattle.std.proofs.Common.{arith}
-use Rattle.guest_space.proofs.{Insides.{processor_of}, RecordWrites.{count_of, after_drop}}
+use Rattle.{std.proofs.Common.{arith}, guest_space.proofs.{Insides.{processor_of}, RecordWrites.{count_of, after_drop}}}
 use Rattle.guest_space.proofs.machine.Machine.drop_record.Goals as goal
 
 pub overflow_sub-place : goal.overflow_sub-place

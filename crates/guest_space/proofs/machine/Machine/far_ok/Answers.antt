@@ -1,5 +1,4 @@
-use Rattle.std.proofs.Common.{◌∙◌, sym, arith}
-use Rattle.guest_space.proofs.FarLaws.{reachable_checked, not_reachable}
+use Rattle.{std.proofs.Common.{◌∙◌, sym, arith}, guest_space.proofs.FarLaws.{reachable_checked, not_reachable}}
 use Rattle.guest_space.proofs.machine.Machine.far_ok.Goals as goal
 
 pub returns-in-Ok : goal.returns-in-Ok

@@ -1,7 +1,5 @@
-use Rattle.std.proofs.Common.{rules, ◌≡◌, ◌∙◌, sym, ap, Err, arith}
-use Rattle.host_memory.specs.View.{MachineView}
-use Rattle.host_memory.proofs.Parts.{regs_is}
-use Rattle.guest_space.specs.Code.{code_byte, one_byte}
+use Rattle.{std.proofs.Common.{rules, ◌≡◌, ◌∙◌, sym, ap, Err, arith}, host_memory.specs.View.{MachineView}}
+use Rattle.{host_memory.proofs.Parts.{regs_is}, guest_space.specs.Code.{code_byte, one_byte}}
 use Rattle.guest_space.proofs.Codes.{fetched_by, not_fetched_by}
 use Rattle.guest_space.proofs.machine.Machine.fetch.Goals as goal
 

@@ -1,7 +1,6 @@
 use Rattle.std.proofs.Common.{◌∙◌, ℕ, sym, ap, arith}
 use Rattle.client_world.specs.{declared.registers.Regs.{Regs}, Segments.{selector}, Selector.{row_of_selector}}
-use Rattle.guest_space.specs.SegmentRows.{base_of_row}
-use Rattle.guest_space.proofs.HiddenLaws.{said_by_part, said_by_row}
+use Rattle.{guest_space.specs.SegmentRows.{base_of_row}, guest_space.proofs.HiddenLaws.{said_by_part, said_by_row}}
 use Rattle.guest_space.proofs.machine.Machine.first_byte.Goals as goal
 
 pub returns-in-Some : goal.returns-in-Some

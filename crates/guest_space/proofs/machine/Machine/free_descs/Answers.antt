@@ -1,5 +1,4 @@
-use Rattle.std.proofs.Common.{arith}
-use Rattle.guest_space.proofs.RowCalls.{first_run, none_in_world, none_in_memory}
+use Rattle.{std.proofs.Common.{arith}, guest_space.proofs.RowCalls.{first_run, none_in_world, none_in_memory}}
 use Rattle.guest_space.proofs.machine.Machine.free_descs.Goals as goal
 
 pub returns-clause-none : goal.returns-clause-none

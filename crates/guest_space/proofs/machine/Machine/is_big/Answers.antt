@@ -1,5 +1,4 @@
-use Rattle.std.proofs.Common.{arith}
-use Rattle.guest_space.proofs.HiddenLaws.{said_by_part, said_by_row}
+use Rattle.{std.proofs.Common.{arith}, guest_space.proofs.HiddenLaws.{said_by_part, said_by_row}}
 use Rattle.guest_space.proofs.machine.Machine.is_big.Goals as goal
 
 pub returns-in-Some : goal.returns-in-Some

@@ -1,9 +1,8 @@
-use Rattle.std.proofs.Common.{◌∙◌, false, sym}
-use Rattle.client_world.specs.declared.segments.SegReg.TheVariants.{Cs}
+use Rattle.{std.proofs.Common.{◌∙◌, false, sym}, client_world.specs.declared.segments.SegReg.TheVariants.{Cs}}
 use Rattle.guest_space.proofs.{Codes.{near_target, part_goes_up}, HiddenLaws.{base_by_part}}
-use Rattle.guest_space.proofs.machine.Machine.is_near_target.Goals as goal
+use Rattle.guest_space.proofs.machine.Machine.is_near_target.Goals.{returns-in-Some as goal}
 
-pub returns-in-Some : goal.returns-in-Some
+pub returns-in-Some : goal
 returns-in-Some c is =
     let w = c.args.self.now.world in
     let part = c.in-Some.part in

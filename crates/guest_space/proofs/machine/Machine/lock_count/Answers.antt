@@ -1,6 +1,5 @@
 use Rattle.std.proofs.Common.{◌∙◌, ◌+◌, ◌*◌, ℕ, ap, inl, inr}
-use Rattle.client_world.specs.declared.host_frames.TheConstants.{PAGE_SIZE, LOCK_COUNTS, LOCK_COUNT_SIZE}
-use Rattle.guest_ram.specs.Bytes.{word_of}
+use Rattle.{client_world.specs.declared.host_frames.TheConstants.{PAGE_SIZE, LOCK_COUNTS, LOCK_COUNT_SIZE}, guest_ram.specs.Bytes.{word_of}}
 use Rattle.guest_space.proofs.{BlockLocks.{region_lock, outside_lock}, Insides.{processor_of}}
 use Rattle.guest_space.proofs.machine.Machine.lock_count.Goals as goal
 

@@ -1,5 +1,4 @@
-use Rattle.std.proofs.Common.{arith}
-use Rattle.guest_space.proofs.{Writes.{other_bytes, other_count}, WriteRuns.{written_by_bytes}}
+use Rattle.{std.proofs.Common.{arith}, guest_space.proofs.{Writes.{other_bytes, other_count}, WriteRuns.{written_by_bytes}}}
 use Rattle.guest_space.proofs.machine.Machine.make_at.Goals as goal
 
 pub returns-then-x-eq8-clause-written : goal.returns-then-x-eq8-clause-written

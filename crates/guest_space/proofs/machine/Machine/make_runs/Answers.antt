@@ -1,5 +1,4 @@
-use Rattle.std.proofs.Common.{refl}
-use Rattle.guest_space.proofs.Writes.{left_written, none_left}
+use Rattle.{std.proofs.Common.{refl}, guest_space.proofs.Writes.{left_written, none_left}}
 use Rattle.guest_space.proofs.machine.Machine.make_runs.Goals as goal
 
 pub loop-x-init : goal.loop-x-init

@@ -1,8 +1,7 @@
-use Rattle.std.proofs.Common.{sym, subst}
-use Rattle.client_world.specs.Soundness.{IsSound}
-use Rattle.guest_space.proofs.machine.Machine.new.Goals as goal
+use Rattle.{std.proofs.Common.{sym, subst}, client_world.specs.Soundness.{IsSound}}
+use Rattle.guest_space.proofs.machine.Machine.new.Goals.{invariant_of-result as goal}
 
-pub invariant_of-result : goal.invariant_of-result
+pub invariant_of-result : goal
 invariant_of-result c = (
   c.in_ok-ram.ensures.holds,
   subst IsSound (sym c.in_ok-ram.ensures.world) c.in_ok-ram.ensures.sound,

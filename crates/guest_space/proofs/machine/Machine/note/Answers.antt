@@ -1,7 +1,5 @@
-use Rattle.std.proofs.Common.{ℕ, ◌%◌, ap, ◌∙◌, sym}
-use Rattle.host_memory.proofs.HostTables.{tables_inside}
-use Rattle.guest_space.proofs.CacheLaws.{set_warm}
-use Rattle.guest_space.specs.declared.pages.TheConstants.{CACHE_SIZE}
+use Rattle.{std.proofs.Common.{ℕ, ◌%◌, ap, ◌∙◌, sym}, host_memory.proofs.HostTables.{tables_inside}}
+use Rattle.{guest_space.proofs.CacheLaws.{set_warm}, guest_space.specs.declared.pages.TheConstants.{CACHE_SIZE}}
 use Rattle.guest_space.proofs.machine.Machine.note.Goals as goal
 
 pub walk-requires-clause-tables : goal.walk-requires-clause-tables

@@ -1,10 +1,9 @@
-use Rattle.std.proofs.Common.{◌≡◌, ◌/◌, arith}
-use Rattle.client_world.specs.declared.host_frames.TheConstants.{PAGE_SIZE}
+use Rattle.{std.proofs.Common.{◌≡◌, ◌/◌, arith}, client_world.specs.declared.host_frames.TheConstants.{PAGE_SIZE}}
 use Rattle.guest_space.specs.Cache.{entry_at}
 use Rattle.guest_space.proofs.{CacheLaws.{hit_ends}, Runs.{translated_by_walk}, Insides.{machine_inside}}
-use Rattle.guest_space.proofs.machine.Machine.noted_address.Goals as goal
+use Rattle.guest_space.proofs.machine.Machine.noted_address.Goals.{returns-then-serves as goal}
 
-pub returns-then-serves : goal.returns-then-serves
+pub returns-then-serves : goal
 returns-then-serves c =
     let entry = entry_at c.self.inside.cache c.cache_place.result in
     let told = c.serves.ensures c.if-serves.true in

@@ -1,5 +1,4 @@
-use Rattle.std.proofs.Common.{rules}
-use Rattle.guest_space.proofs.machine.Machine.noted_run.Goals as goal
+use Rattle.{std.proofs.Common.{rules}, guest_space.proofs.machine.Machine.noted_run.Goals.{returns-then-is_in_page as goal}}
 
-pub returns-then-is_in_page : goal.returns-then-is_in_page
+pub returns-then-is_in_page : goal
 returns-then-is_in_page c = search rules

@@ -1,5 +1,4 @@
-use Rattle.std.proofs.Common.{◌∙◌}
-use Rattle.guest_space.proofs.{BlockLocks.{locked_in_rows, few_pages, rows_inside}, Insides.{processor_of}}
+use Rattle.{std.proofs.Common.{◌∙◌}, guest_space.proofs.{BlockLocks.{locked_in_rows, few_pages, rows_inside}, Insides.{processor_of}}}
 use Rattle.guest_space.proofs.machine.Machine.pages_locked.Goals as goal
 
 pub locked_pages-requires-clause-few : goal.locked_pages-requires-clause-few

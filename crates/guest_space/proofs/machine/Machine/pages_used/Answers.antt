@@ -1,5 +1,4 @@
-use Rattle.std.proofs.Common.{◌∙◌}
-use Rattle.guest_space.proofs.{BlockLocks.{pages_in_rows, few_pages}, Insides.{processor_of}}
+use Rattle.{std.proofs.Common.{◌∙◌}, guest_space.proofs.{BlockLocks.{pages_in_rows, few_pages}, Insides.{processor_of}}}
 use Rattle.guest_space.proofs.machine.Machine.pages_used.Goals as goal
 
 pub used_pages-requires-clause-few : goal.used_pages-requires-clause-few

@@ -1,6 +1,4 @@
-use Rattle.std.proofs.Common.{arith}
-use Rattle.guest_space.proofs.HiddenLaws.{part_there}
-use Rattle.guest_space.proofs.machine.Machine.part.Goals as goal
+use Rattle.{std.proofs.Common.{arith}, guest_space.proofs.{HiddenLaws.{part_there}, machine.Machine.part.Goals.{returns as goal}}}
 
-pub returns : goal.returns
+pub returns : goal
 returns c = grind (arith, part_there)

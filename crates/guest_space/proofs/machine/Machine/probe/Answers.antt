@@ -1,6 +1,5 @@
 use Rattle.std.proofs.Common.{arith}
-use Rattle.guest_space.proofs.Accesses.{refusal_linear}
-use Rattle.guest_space.proofs.machine.Machine.probe.Goals as goal
+use Rattle.guest_space.proofs.{Accesses.{refusal_linear}, machine.Machine.probe.Goals.{returns-in-Some as goal}}
 
-pub returns-in-Some : goal.returns-in-Some
+pub returns-in-Some : goal
 returns-in-Some c = grind (arith, refusal_linear)

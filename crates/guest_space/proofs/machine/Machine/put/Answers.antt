@@ -1,7 +1,6 @@
 use Rattle.std.proofs.Common.{◌+◌, ◌%◌, ◌∙◌, sym, ap, refl, [], ◌∷◌, length, slice_index, arith}
 use Rattle.client_world.specs.{declared.place.Place.{Place}, declared.place.Place.TheVariants.{Nothing}, Access.{places_from}}
-use Rattle.client_world.proofs.PlaceLaws.{length-places_from, places_from-at}
-use Rattle.guest_space.specs.Transfer.{with_places}
+use Rattle.{client_world.proofs.PlaceLaws.{length-places_from, places_from-at}, guest_space.specs.Transfer.{with_places}}
 use Rattle.guest_space.proofs.{Puts.{put_step, put_end, put_keeps}, Runs.{all_touch}}
 use Rattle.guest_space.proofs.machine.Machine.put.Goals as goal
 

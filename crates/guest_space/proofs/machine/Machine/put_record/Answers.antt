@@ -1,5 +1,4 @@
-use Rattle.std.proofs.Common.{arith}
-use Rattle.guest_space.proofs.RecordWrites.{after_put}
+use Rattle.{std.proofs.Common.{arith}, guest_space.proofs.RecordWrites.{after_put}}
 use Rattle.guest_space.proofs.machine.Machine.put_record.Goals as goal
 
 pub invariant_of-self : goal.invariant_of-self

@@ -1,5 +1,4 @@
-use Rattle.std.proofs.Common.{arith}
-use Rattle.host_memory.proofs.BlocksClaim.{holds_world}
+use Rattle.{std.proofs.Common.{arith}, host_memory.proofs.BlocksClaim.{holds_world}}
 use Rattle.guest_space.proofs.{MachineLaws.{machine_walks, machine_stands}, Machines.{opened_holds}, Insides.{processor_of}}
 use Rattle.guest_space.proofs.machine.Machine.ram.Goals as goal
 

@@ -1,5 +1,4 @@
-use Rattle.std.proofs.Common.{arith}
-use Rattle.guest_space.proofs.FarLaws.{reachable_linear, far_bytes_linear, reachable_not_refused}
+use Rattle.{std.proofs.Common.{arith}, guest_space.proofs.FarLaws.{reachable_linear, far_bytes_linear, reachable_not_refused}}
 use Rattle.guest_space.proofs.machine.Machine.read_bytes.Goals as goal
 
 pub load_into-requires-clause-readable : goal.load_into-requires-clause-readable

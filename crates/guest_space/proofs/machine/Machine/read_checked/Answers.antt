@@ -1,6 +1,4 @@
-use Rattle.std.proofs.Common.{arith}
-use Rattle.guest_space.proofs.Accesses.{loaded_linear}
-use Rattle.guest_space.proofs.machine.Machine.read_checked.Goals as goal
+use Rattle.{std.proofs.Common.{arith}, guest_space.proofs.{Accesses.{loaded_linear}, machine.Machine.read_checked.Goals.{returns as goal}}}
 
-pub returns : goal.returns
+pub returns : goal
 returns g c = grind (arith, loaded_linear)

@@ -1,5 +1,4 @@
-use Rattle.std.proofs.Common.{arith}
-use Rattle.guest_space.proofs.HiddenLaws.{base_by_part, base_by_row}
+use Rattle.{std.proofs.Common.{arith}, guest_space.proofs.HiddenLaws.{base_by_part, base_by_row}}
 use Rattle.guest_space.proofs.machine.Machine.segment_base.Goals as goal
 
 pub returns-in-Some : goal.returns-in-Some

@@ -1,6 +1,5 @@
 use Rattle.std.proofs.Common.{sym, subst, slice_set, ap, arith}
-use Rattle.client_world.specs.{Soundness.{IsSound}, Access.{place_in}, World.{World}}
-use Rattle.host_memory.specs.View.{MachineView}
+use Rattle.{client_world.specs.{Soundness.{IsSound}, Access.{place_in}, World.{World}}, host_memory.specs.View.{MachineView}}
 use Rattle.host_memory.proofs.RowWrites.{row_world, row_holds}
 use Rattle.guest_space.proofs.{RowCalls.{fits_of_sound}, CacheLaws.{kept_warm, put_beside, row_beside}}
 use Rattle.guest_space.specs.Machines.{Processor}

@@ -1,6 +1,5 @@
 use Rattle.std.proofs.{Common.{◌<◌, [], ◌∷◌, arith, refl, slice_set, inl}, lemmas.Bool.{lt-ltb}}
-use Rattle.client_world.specs.declared.memory_map.TheConstants.{ROM_START}
-use Rattle.host_memory.proofs.ClientWrites.{dos_world, dos_holds}
+use Rattle.{client_world.specs.declared.memory_map.TheConstants.{ROM_START}, host_memory.proofs.ClientWrites.{dos_world, dos_holds}}
 use Rattle.guest_space.proofs.{OwnParts.{byte_sound}, CacheLaws.{put_beside}, Insides.{view_of, after_call}}
 use Rattle.guest_space.proofs.machine.Machine.set_dos8.Goals as goal
 

@@ -1,5 +1,4 @@
-use Rattle.std.proofs.Common.{arith}
-use Rattle.client_world.specs.declared.registers.Regs.{Regs}
+use Rattle.{std.proofs.Common.{arith}, client_world.specs.declared.registers.Regs.{Regs}}
 use Rattle.guest_space.proofs.OwnParts.{changed_regs, regs_sound}
 use Rattle.guest_space.proofs.machine.Machine.set_flags.Goals as goal
 

@@ -1,7 +1,5 @@
-use Rattle.std.proofs.Common.{ap, ◌∙◌, arith}
-use Rattle.client_world.specs.{declared.registers.Regs.{Regs}, General.{with_general}}
-use Rattle.host_memory.specs.Layout.{world_of}
-use Rattle.guest_space.proofs.{OwnParts.{changed_regs, regs_sound}, HiddenLaws.{found_general}}
+use Rattle.{std.proofs.Common.{ap, ◌∙◌, arith}, client_world.specs.{declared.registers.Regs.{Regs}, General.{with_general}}}
+use Rattle.{host_memory.specs.Layout.{world_of}, guest_space.proofs.{OwnParts.{changed_regs, regs_sound}, HiddenLaws.{found_general}}}
 use Rattle.guest_space.proofs.machine.Machine.set_general.Goals as goal
 
 pub invariant_of-self : goal.invariant_of-self

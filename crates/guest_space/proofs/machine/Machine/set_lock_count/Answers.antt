@@ -1,8 +1,6 @@
 use Rattle.std.proofs.Common.{◌∙◌, ◌+◌, ◌*◌, ℕ, ap, arith}
-use Rattle.client_world.specs.declared.host_frames.TheConstants.{PAGE_SIZE, LOCK_COUNTS, LOCK_COUNT_SIZE}
-use Rattle.guest_ram.specs.Bytes.{put}
-use Rattle.host_memory.specs.Vectors.{word_bytes}
-use Rattle.block_memory.proofs.LockWrites.{in_region_of}
+use Rattle.{client_world.specs.declared.host_frames.TheConstants.{PAGE_SIZE, LOCK_COUNTS, LOCK_COUNT_SIZE}, guest_ram.specs.Bytes.{put}}
+use Rattle.{host_memory.specs.Vectors.{word_bytes}, block_memory.proofs.LockWrites.{in_region_of}}
 use Rattle.guest_space.proofs.BlockLocks.{locked_machine}
 use Rattle.guest_space.proofs.machine.Machine.set_lock_count.Goals as goal
 

@@ -1,7 +1,5 @@
-use Rattle.std.proofs.Common.{◌∙◌, ◌+◌, ◌*◌, ℕ, ap, slice_set}
-use Rattle.client_world.specs.declared.host_frames.TheConstants.{PAGE_SIZE, VECTORS}
-use Rattle.host_memory.specs.Vectors.{pageable_start}
-use Rattle.guest_space.proofs.VectorCalls.{set_pageable}
+use Rattle.{std.proofs.Common.{◌∙◌, ◌+◌, ◌*◌, ℕ, ap, slice_set}, client_world.specs.declared.host_frames.TheConstants.{PAGE_SIZE, VECTORS}}
+use Rattle.{host_memory.specs.Vectors.{pageable_start}, guest_space.proofs.VectorCalls.{set_pageable}}
 use Rattle.guest_space.proofs.machine.Machine.set_pageable.Goals as goal
 
 pub invariant_of-self : goal.invariant_of-self

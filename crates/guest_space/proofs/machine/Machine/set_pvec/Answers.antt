@@ -1,5 +1,4 @@
-use Rattle.std.proofs.Common.{arith}
-use Rattle.guest_space.proofs.VectorCalls.{set_interrupt}
+use Rattle.{std.proofs.Common.{arith}, guest_space.proofs.VectorCalls.{set_interrupt}}
 use Rattle.guest_space.proofs.machine.Machine.set_pvec.Goals as goal
 
 pub invariant_of-self : goal.invariant_of-self

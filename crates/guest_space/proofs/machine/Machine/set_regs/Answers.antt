@@ -1,5 +1,4 @@
-use Rattle.std.proofs.Common.{arith}
-use Rattle.guest_space.proofs.{HiddenLaws.{found_same}, OwnParts.{regs_world, regs_sound}}
+use Rattle.{std.proofs.Common.{arith}, guest_space.proofs.{HiddenLaws.{found_same}, OwnParts.{regs_world, regs_sound}}}
 use Rattle.guest_space.proofs.machine.Machine.set_regs.Goals as goal
 
 pub invariant_of-self : goal.invariant_of-self

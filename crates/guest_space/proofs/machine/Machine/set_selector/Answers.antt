@@ -1,5 +1,4 @@
-use Rattle.std.proofs.Common.{◌∙◌, ap, arith}
-use Rattle.client_world.specs.{declared.registers.Regs.{Regs}, Segments.{with_selector}}
+use Rattle.{std.proofs.Common.{◌∙◌, ap, arith}, client_world.specs.{declared.registers.Regs.{Regs}, Segments.{with_selector}}}
 use Rattle.host_memory.specs.Layout.{world_of}
 use Rattle.guest_space.proofs.{OwnParts.{changed_regs, regs_sound}, HiddenLaws.{found_changed, found_loaded}}
 use Rattle.guest_space.proofs.machine.Machine.set_selector.Goals as goal

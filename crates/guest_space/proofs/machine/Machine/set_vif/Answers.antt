@@ -1,5 +1,4 @@
-use Rattle.std.proofs.Common.{arith}
-use Rattle.guest_space.proofs.OwnParts.{vif_world, vif_sound}
+use Rattle.{std.proofs.Common.{arith}, guest_space.proofs.OwnParts.{vif_world, vif_sound}}
 use Rattle.guest_space.proofs.machine.Machine.set_vif.Goals as goal
 
 pub invariant_of-self : goal.invariant_of-self

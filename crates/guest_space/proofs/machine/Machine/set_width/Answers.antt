@@ -1,7 +1,5 @@
-use Rattle.std.proofs.Common.{◌≡◌, sym, subst, ap, None, Some, arith}
-use Rattle.client_world.specs.{Access.{place_in}, World.{World}}
-use Rattle.host_memory.specs.View.{MachineView}
-use Rattle.guest_space.specs.Machines.{Processor}
+use Rattle.{std.proofs.Common.{◌≡◌, sym, subst, ap, None, Some, arith}, client_world.specs.{Access.{place_in}, World.{World}}}
+use Rattle.{host_memory.specs.View.{MachineView}, guest_space.specs.Machines.{Processor}}
 use Rattle.guest_space.proofs.{CacheLaws.{kept_warm_of}, Entered.{entered_addresses, entered_holds, entered_sound, entered_world}}
 use Rattle.guest_space.proofs.machine.Machine.set_width.Goals as goal
 

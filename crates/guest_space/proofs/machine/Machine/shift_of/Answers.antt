@@ -1,5 +1,4 @@
-use Rattle.std.proofs.Common.{◌+◌, ◌-◌, ◌%◌, ◌^◌, slice_index_or, arith}
-use Rattle.guest_space.proofs.WriteRuns.{write_in_run, runs_not_refused}
+use Rattle.{std.proofs.Common.{◌+◌, ◌-◌, ◌%◌, ◌^◌, slice_index_or, arith}, guest_space.proofs.WriteRuns.{write_in_run, runs_not_refused}}
 use Rattle.guest_space.proofs.machine.Machine.shift_of.Goals as goal
 
 pub returns-clause-runs : goal.returns-clause-runs

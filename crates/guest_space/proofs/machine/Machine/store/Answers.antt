@@ -1,5 +1,4 @@
-use Rattle.std.proofs.Common.{◌+◌, ◌%◌, ◌≤◌, ◌∙◌, sym, arith, true}
-use Rattle.client_world.specs.declared.host_frames.TheConstants.{PAGE_SIZE}
+use Rattle.{std.proofs.Common.{◌+◌, ◌%◌, ◌≤◌, ◌∙◌, sym, arith, true}, client_world.specs.declared.host_frames.TheConstants.{PAGE_SIZE}}
 use Rattle.guest_space.proofs.{Puts.{store_is}, Runs.{run_all, run_inside, first_part_fails, no_fault, is_in}, Insides.{view_of}}
 use Rattle.guest_space.proofs.Insides.{machine_inside, stored_whole}
 use Rattle.guest_space.proofs.machine.Machine.store.Goals as goal

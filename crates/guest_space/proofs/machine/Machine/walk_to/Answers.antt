@@ -1,5 +1,4 @@
-use Rattle.std.proofs.Common.{◌∙◌, sym, arith}
-use Rattle.host_memory.proofs.HostTables.{tables_inside}
+use Rattle.{std.proofs.Common.{◌∙◌, sym, arith}, host_memory.proofs.HostTables.{tables_inside}}
 use Rattle.guest_space.proofs.{Runs.{translated_by_walk, translated_by_failure}, Insides.{machine_inside}}
 use Rattle.guest_space.proofs.machine.Machine.walk_to.Goals as goal
 

@@ -1,9 +1,8 @@
 use Rattle.std.proofs.Common.{rules, ◌≡◌, ◌≤◌, ◌%◌, ◌+◌, ap, refl, arith}
 use Rattle.client_world.specs.{declared.host_frames.TheConstants.{PAGE_SIZE}, Access.{linear}}
-use Rattle.guest_space.proofs.Runs.{is_in}
-use Rattle.guest_space.proofs.machine.Machine.window_from.Goals as goal
+use Rattle.guest_space.proofs.{Runs.{is_in}, machine.Machine.window_from.Goals.{returns as goal}}
 
-pub returns : goal.returns
+pub returns : goal
 returns c some =
     let w = c.args.self.now.world in
     let whole : c.saturating_sub.result + 14 ≡ c.args.size = omega arith in

@@ -1,7 +1,5 @@
-use Rattle.std.proofs.Common.{◌∙◌, ℕ, ◌+◌, ◌≤◌, List, length, ap, subst, sym, arith}
-use Rattle.guest_ram.specs.Bytes.{region}
-use Rattle.host_memory.specs.View.{MachineView}
-use Rattle.guest_space.proofs.WindowLaws.{window_inside, window_words}
+use Rattle.{std.proofs.Common.{◌∙◌, ℕ, ◌+◌, ◌≤◌, List, length, ap, subst, sym, arith}, guest_ram.specs.Bytes.{region}}
+use Rattle.{host_memory.specs.View.{MachineView}, guest_space.proofs.WindowLaws.{window_inside, window_words}}
 use Rattle.guest_space.proofs.machine.Machine.words_in.Goals as goal
 
 pub overflow_add-window : goal.overflow_add-window

@@ -1,5 +1,4 @@
-use Rattle.std.proofs.Common.{arith}
-use Rattle.guest_space.proofs.{Accesses.{write_done, write_refused}, MachineLaws.{stored_or_kept}}
+use Rattle.{std.proofs.Common.{arith}, guest_space.proofs.{Accesses.{write_done, write_refused}, MachineLaws.{stored_or_kept}}}
 use Rattle.guest_space.proofs.machine.Machine.write.Goals as goal
 
 pub returns-in-Some-clause-done : goal.returns-in-Some-clause-done

@@ -1,5 +1,4 @@
-use Rattle.std.proofs.Common.{arith}
-use Rattle.guest_space.proofs.{MachineLaws.{all_or_kept, all_made}, Writes.{one_made, one_refused}}
+use Rattle.{std.proofs.Common.{arith}, guest_space.proofs.{MachineLaws.{all_or_kept, all_made}, Writes.{one_made, one_refused}}}
 use Rattle.guest_space.proofs.machine.Machine.write_all.Goals as goal
 
 pub returns-then-writes-eq1-clause-done : goal.returns-then-writes-eq1-clause-done

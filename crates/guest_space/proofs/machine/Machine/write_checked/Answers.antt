@@ -1,5 +1,4 @@
-use Rattle.std.proofs.Common.{◌∙◌, sym, arith}
-use Rattle.guest_space.proofs.Accesses.{refusal_refused, write_done, write_refused}
+use Rattle.{std.proofs.Common.{◌∙◌, sym, arith}, guest_space.proofs.Accesses.{refusal_refused, write_done, write_refused}}
 use Rattle.guest_space.proofs.machine.Machine.write_checked.Goals as goal
 
 pub returns-in_err-base-clause-refused : goal.returns-in_err-base-clause-refused

@@ -1,5 +1,4 @@
-use Rattle.std.proofs.Common.{arith}
-use Rattle.guest_space.proofs.{MachineLaws.{written_or_kept}, Writes.{answered, other_bytes, other_count}}
+use Rattle.{std.proofs.Common.{arith}, guest_space.proofs.{MachineLaws.{written_or_kept}, Writes.{answered, other_bytes, other_count}}}
 use Rattle.guest_space.proofs.machine.Machine.write_one.Goals as goal
 
 pub returns-then-x-eq8-clause-made : goal.returns-then-x-eq8-clause-made

@@ -1,8 +1,7 @@
 use Rattle.guest_space.specs.Pending.{byte_count, write_fault}
-use Rattle.guest_space.proofs.WriteRuns.{run_not_refused}
-use Rattle.guest_space.proofs.machine.Machine.write_run.Goals as goal
+use Rattle.guest_space.proofs.{WriteRuns.{run_not_refused}, machine.Machine.write_run.Goals.{returns-clause-allowed as goal}}
 
-pub returns-clause-allowed : goal.returns-clause-allowed
+pub returns-clause-allowed : goal
 unfolding write_fault
 returns-clause-allowed c =
     let x = c.args.x.now in

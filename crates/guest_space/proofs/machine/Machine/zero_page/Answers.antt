@@ -1,6 +1,5 @@
 use Rattle.std.proofs.Common.{◌∙◌, ◌+◌, ◌*◌, ℕ, ap, arith}
-use Rattle.client_world.specs.declared.host_frames.TheConstants.{PAGE_SIZE, BLOCK_TABLES, PAGE_ENTRY_SIZE}
-use Rattle.guest_ram.specs.Bytes.{dword}
+use Rattle.{client_world.specs.declared.host_frames.TheConstants.{PAGE_SIZE, BLOCK_TABLES, PAGE_ENTRY_SIZE}, guest_ram.specs.Bytes.{dword}}
 use Rattle.block_memory.proofs.LockWrites.{in_region_of}
 use Rattle.guest_space.proofs.{BlockLocks.{frame_inside, cleared_machine}, Insides.{processor_of}}
 use Rattle.guest_space.proofs.machine.Machine.zero_page.Goals as goal

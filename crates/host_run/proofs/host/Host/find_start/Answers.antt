@@ -1,10 +1,8 @@
-use Rattle.std.proofs.Common.{◌≡◌, ◌∙◌, ◌+◌, ◌<◌, ap, subst}
-use Rattle.client_world.specs.declared.registers.Regs.{Regs}
+use Rattle.{std.proofs.Common.{◌≡◌, ◌∙◌, ◌+◌, ◌<◌, ap, subst}, client_world.specs.declared.registers.Regs.{Regs}}
 use Rattle.host_run.specs.View.{HostView, machine_view}
-use Rattle.host_run.proofs.WindowStarts.{start_found}
-use Rattle.host_run.proofs.host.Host.find_start.Goals as goal
+use Rattle.host_run.proofs.{WindowStarts.{start_found}, host.Host.find_start.Goals.{returns-in-Some-clause-found as goal}}
 
-pub returns-in-Some-clause-found : goal.returns-in-Some-clause-found
+pub returns-in-Some-clause-found : goal
 returns-in-Some-clause-found c =
     let w = c.args.window.now in
     start_found (machine_view c.args.self.now) w c.in-Some.from c.requires

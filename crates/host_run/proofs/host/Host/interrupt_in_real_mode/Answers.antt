@@ -1,10 +1,8 @@
-use Rattle.std.proofs.Common.{◌≡◌, ap, subst}
-use Rattle.interrupts.specs.Worlds.{world_interrupt}
+use Rattle.{std.proofs.Common.{◌≡◌, ap, subst}, interrupts.specs.Worlds.{world_interrupt}}
 use Rattle.host_run.specs.{Turn.{after_interrupt}, View.{machine_view}}
-use Rattle.host_run.proofs.Touches.{HasLaws, interrupt_or_ends}
-use Rattle.host_run.proofs.host.Host.interrupt_in_real_mode.Goals as goal
+use Rattle.host_run.proofs.{Touches.{HasLaws, interrupt_or_ends}, host.Host.interrupt_in_real_mode.Goals.{returns-clause-bytes as goal}}
 
-pub returns-clause-bytes : goal.returns-clause-bytes
+pub returns-clause-bytes : goal
 returns-clause-bytes c =
     let laws = c.a_machine_changes_only_what_is_written.ensures in
     let machine : c.self.inside.machine ≡ machine_view c.args.self.now = ap machine_view c.self.view_is in

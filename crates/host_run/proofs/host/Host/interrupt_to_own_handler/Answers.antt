@@ -1,8 +1,5 @@
-use Rattle.std.proofs.Common.{◌≡◌, ℕ, List, Ok, ap, subst, sym}
-use Rattle.std.specs.Prelude.{OnOk}
-use Rattle.host_memory.specs.View.{MachineView}
-use Rattle.interrupts.specs.Worlds.{world_interrupt}
-use Rattle.fault_service.specs.ByMode.{delivery}
+use Rattle.{std.proofs.Common.{◌≡◌, ℕ, List, Ok, ap, subst, sym}, std.specs.Prelude.{OnOk}, host_memory.specs.View.{MachineView}}
+use Rattle.{interrupts.specs.Worlds.{world_interrupt}, fault_service.specs.ByMode.{delivery}}
 use Rattle.host_run.specs.{Footprint.{ChangesOnly, after_client_interrupt, interrupt_footprint}, View.{machine_view}}
 use Rattle.host_run.proofs.Touches.{interrupted_changes, raised_or_ends}
 use Rattle.host_run.proofs.host.Host.interrupt_to_own_handler.Goals as goal

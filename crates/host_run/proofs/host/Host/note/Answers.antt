@@ -1,5 +1,4 @@
-use Rattle.std.proofs.Common.{rules}
-use Rattle.host_run.proofs.host.Host.note.Goals as goal
+use Rattle.{std.proofs.Common.{rules}, host_run.proofs.host.Host.note.Goals.{invariant_of-self as goal}}
 
-pub invariant_of-self : goal.invariant_of-self
+pub invariant_of-self : goal
 invariant_of-self c = search rules

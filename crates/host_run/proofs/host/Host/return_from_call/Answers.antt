@@ -1,5 +1,4 @@
-use Rattle.std.proofs.Common.{rules}
-use Rattle.host_run.proofs.host.Host.return_from_call.Goals as goal
+use Rattle.{std.proofs.Common.{rules}, host_run.proofs.host.Host.return_from_call.Goals.{returns as goal}}
 
-pub returns : goal.returns
+pub returns : goal
 returns c = search rules

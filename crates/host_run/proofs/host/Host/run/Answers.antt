@@ -1,5 +1,4 @@
-use Rattle.std.proofs.Common.{arith, refl, sym, ◌∙◌, ap}
-use Rattle.host_run.specs.{Run.{turns}, Turn.{turn}, View.{HostView}}
+use Rattle.{std.proofs.Common.{arith, refl, sym, ◌∙◌, ap}, host_run.specs.{Run.{turns}, Turn.{turn}, View.{HostView}}}
 use Rattle.host_run.proofs.{WindowStarts.{no_starts}, Runs.{run_ended, run_over, turns_more}}
 use Rattle.host_run.proofs.host.Host.run.Goals as goal
 

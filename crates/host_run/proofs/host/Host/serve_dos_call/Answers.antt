@@ -1,5 +1,4 @@
-use Rattle.std.proofs.Common.{rules}
-use Rattle.host_run.proofs.host.Host.serve_dos_call.Goals as goal
+use Rattle.{std.proofs.Common.{rules}, host_run.proofs.host.Host.serve_dos_call.Goals.{returns-in-Ended as goal}}
 
-pub returns-in-Ended : goal.returns-in-Ended
+pub returns-in-Ended : goal
 returns-in-Ended c = search rules

@@ -1,5 +1,4 @@
-use Rattle.std.proofs.Common.{rules}
-use Rattle.host_run.specs.Turn.{turn}
+use Rattle.{std.proofs.Common.{rules}, host_run.specs.Turn.{turn}}
 use Rattle.host_run.proofs.host.Host.turn.Goals as goal
 
 pub returns-in-Some : goal.returns-in-Some

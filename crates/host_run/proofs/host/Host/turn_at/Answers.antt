@@ -1,7 +1,5 @@
-use Rattle.std.proofs.Common.{rules, ℕ, List, Ok, Err, ap, subst, sym}
-use Rattle.client_world.specs.World.{HostWorld, World}
-use Rattle.host_run.specs.{Windows.{HasWindow}, Turn.{turn}}
-use Rattle.host_run.proofs.Runs.{by_exit}
+use Rattle.{std.proofs.Common.{rules, ℕ, List, Ok, Err, ap, subst, sym}, client_world.specs.World.{HostWorld, World}}
+use Rattle.{host_run.specs.{Windows.{HasWindow}, Turn.{turn}}, host_run.proofs.Runs.{by_exit}}
 use Rattle.host_run.proofs.host.Host.turn_at.Goals as goal
 
 pub returns-in-Ok-clause-turn : goal.returns-in-Ok-clause-turn

@@ -1,5 +1,4 @@
-use Rattle.std.proofs.Common.{◌≡◌, ◌∙◌, sym, ap, refl}
-use Rattle.client_world.specs.CodeWords.{code_bytes}
+use Rattle.{std.proofs.Common.{◌≡◌, ◌∙◌, sym, ap, refl}, client_world.specs.CodeWords.{code_bytes}}
 use Rattle.insn_decode.specs.{declared.decoding.Decoded.TheVariants.{Whole}, Decode.{decoded}}
 use Rattle.insn_decode.proofs.Answering.{has_a_byte, are_code_bytes, decoded_start}
 use Rattle.insn_decode.proofs.memo.Entry.new.Goals as goal

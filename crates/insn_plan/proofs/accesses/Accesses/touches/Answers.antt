@@ -1,7 +1,5 @@
-use Rattle.std.proofs.Common.{◌∙◌, ◌+◌, sym, ap, List, drop, arith}
-use Rattle.client_world.specs.declared.watchpoints.Touch.{Touch}
-use Rattle.insn_plan.specs.Accesses.{touches_after}
-use Rattle.insn_plan.proofs.AccessLists.{left_none, left_some, left_end}
+use Rattle.{std.proofs.Common.{◌∙◌, ◌+◌, sym, ap, List, drop, arith}, client_world.specs.declared.watchpoints.Touch.{Touch}}
+use Rattle.{insn_plan.specs.Accesses.{touches_after}, insn_plan.proofs.AccessLists.{left_none, left_some, left_end}}
 use Rattle.insn_plan.proofs.accesses.Accesses.touches.Goals as goal
 
 pub returns-in-None : goal.returns-in-None

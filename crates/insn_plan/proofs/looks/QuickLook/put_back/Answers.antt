@@ -1,5 +1,4 @@
-use Rattle.std.proofs.Common.{rules}
-use Rattle.insn_plan.proofs.looks.QuickLook.put_back.Goals as goal
+use Rattle.{std.proofs.Common.{rules}, insn_plan.proofs.looks.QuickLook.put_back.Goals.{write_there-requires as goal}}
 
-pub write_there-requires : goal.write_there-requires
+pub write_there-requires : goal
 write_there-requires c = search rules

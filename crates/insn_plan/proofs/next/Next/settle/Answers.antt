@@ -1,7 +1,6 @@
-use Rattle.std.proofs.Common.{rules}
-use Rattle.insn_plan.specs.Plan.{after_commit}
-use Rattle.insn_plan.proofs.next.Next.settle.Goals as goal
+use Rattle.{std.proofs.Common.{rules}, insn_plan.specs.Plan.{after_commit}}
+use Rattle.insn_plan.proofs.next.Next.settle.Goals.{returns-in_err-write_all as goal}
 
-pub returns-in_err-write_all : goal.returns-in_err-write_all
+pub returns-in_err-write_all : goal
 unfolding after_commit
 returns-in_err-write_all c = search rules

@@ -1,5 +1,4 @@
-use Rattle.std.proofs.Common.{rules}
-use Rattle.insn_plan.proofs.raised.Raised.event.Goals as goal
+use Rattle.{std.proofs.Common.{rules}, insn_plan.proofs.raised.Raised.event.Goals.{returns-then-self-eq0 as goal}}
 
-pub returns-then-self-eq0 : goal.returns-then-self-eq0
+pub returns-then-self-eq0 : goal
 returns-then-self-eq0 c = search rules

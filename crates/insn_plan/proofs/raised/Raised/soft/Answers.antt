@@ -1,5 +1,4 @@
-use Rattle.std.proofs.Common.{rules}
-use Rattle.insn_plan.proofs.raised.Raised.soft.Goals as goal
+use Rattle.{std.proofs.Common.{rules}, insn_plan.proofs.raised.Raised.soft.Goals.{returns as goal}}
 
-pub returns : goal.returns
+pub returns : goal
 returns c = search rules

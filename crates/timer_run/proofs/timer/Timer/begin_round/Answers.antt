@@ -1,5 +1,4 @@
-use Rattle.std.proofs.Common.{rules}
-use Rattle.timer_run.specs.Timer.{timer_part}
+use Rattle.{std.proofs.Common.{rules}, timer_run.specs.Timer.{timer_part}}
 use Rattle.timer_run.proofs.timer.Timer.begin_round.Goals as goal
 
 pub int_turn-requires-clause-enabled : goal.int_turn-requires-clause-enabled

@@ -1,5 +1,4 @@
-use Rattle.std.proofs.Common.{arith, sym, ap, ◌∙◌}
-use Rattle.unit_tests.specs.Scripted.{scripted_turn, scripted_world}
+use Rattle.{std.proofs.Common.{arith, sym, ap, ◌∙◌}, unit_tests.specs.Scripted.{scripted_turn, scripted_world}}
 use Rattle.pair_run.proofs.OwnRuns.{turns_more, turns_none}
 use Rattle.unit_tests.proofs.turns.ScriptedTurns.go.Goals as goal
 
