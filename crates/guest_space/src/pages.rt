@@ -22,8 +22,8 @@ pub(crate) const CACHE_SIZE: usize = 64;
 const NO_PAGE: u32 = 0x10_0000;
 
 /// Where a linear page lies in the memory: its frame, and whether it may be written. Only a page that may be read is in use, and it is at
-/// its own place: its number modulo the number of entries. An entry that isn't in use has a number that no page has, so that a look compares
-/// numbers alone.
+/// its own place: its number modulo the number of entries. An entry that isn't in use has a number that no page has, so that a look
+/// compares numbers alone.
 /// Source: 80386 Programmer's Reference Manual, ch. 5, "Page Translation Cache".
 #[derive(Clone, Copy, Debug, PartialEq, Eq)]
 pub struct CacheEntry {
