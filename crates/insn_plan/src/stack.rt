@@ -24,7 +24,8 @@ pub fn has_big_stack(m: &Machine) -> bool
     m.is_big(SegReg::Ss)
 }
 
-/// The same by a look. Quick looks miss where the hidden part of SS isn't there. Source: own.
+/// Whether the stack pointer is ESP, by a look. Quick looks miss where the hidden part of SS isn't there, and report nothing.
+/// Source: 80386 Programmer's Reference Manual, ch. 16, "Stack-Segment Default Size".
 #[inline(always)]
 #[tactic(auto, unfolding(crate::specs::Stack::has_big_stack))]
 pub fn look_at_size<L: Look>(m: &Machine) -> Result<bool, L::Missed>
@@ -97,7 +98,7 @@ pub fn stack_item(m: &Machine, width: u8, place: u8) -> Result<u32, Raised>
 }
 
 /// Reads the item of a width, 8, 16 or 32 bits, at the top of the stack, by a look; or gives what the look that misses returns. The machine
-/// stays. `big` says that the stack pointer is ESP.
+/// stays. `big` says that the stack pointer is ESP; where it is a constant, only one size is compiled.
 /// Source: 80386 Programmer's Reference Manual, ch. 17, POP.
 #[inline(always)]
 #[tactic(auto, using(crate::proofs::TopItem::top_item))]
@@ -110,7 +111,8 @@ pub fn look_at_top_of<L: Look>(m: &mut Machine, big: bool, width: u8) -> Result<
     L::read(m, SegReg::Ss, sp, width)
 }
 
-/// The same of any stack.
+/// Reads the item of a width, 8, 16 or 32 bits, at the top of the stack, by a look; or gives what the look that misses returns. The machine
+/// stays.
 /// Source: 80386 Programmer's Reference Manual, ch. 17, POP.
 #[inline(always)]
 pub fn look_at_top<L: Look>(m: &mut Machine, width: u8) -> Result<u32, L::Missed>
