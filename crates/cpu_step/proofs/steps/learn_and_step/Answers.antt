@@ -1,0 +1,6 @@
+use Rattle.cpu_step.proofs.KnownSteps.{known_step}
+use Rattle.cpu_step.proofs.steps.learn_and_step.Goals as goal
+
+pub returns-in-Some : goal.returns-in-Some
+returns-in-Some c =
+    known_step _ _ _ _ _ _ _ _ c.requires.window c.requires.start c.words_in-words.ensures c.in-Some.ensures.decoded c.execute.ensures
