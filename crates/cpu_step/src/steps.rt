@@ -136,16 +136,9 @@ pub fn find_window(m: &mut Machine) -> CodeWindow
     m.code_window()
 }
 
-// Where the memo looks for the instruction at that start of a window: the address of the code in the memory.
-#[inline(always)]
-fn key_of(window: &CodeWindow, from: u32) -> u32 {
-    window.address.wrapping_add(from)
-}
-
 // Makes the instruction at that start of a window, where the memo lacks it or it has more than 8 bytes.
 #[cold]
 #[inline(never)]
-#[tactic(auto, using(crate::proofs::KnownSteps::known_step), unfolding(crate::specs::Step::has_big_code))]
 fn learn_and_step(
     m: &mut Machine,
     memo: &mut Memo,
@@ -158,7 +151,7 @@ fn learn_and_step(
     ensures { Follows m.old m.new result (client_step m.old) }
 {
     let words = m.words_in(window, from);
-    match memo.learn(key_of(window, from), words, window.big) {
+    match memo.learn(window.place + from, words) {
         Some(entry) => execute(m, &entry.insn, entry.len, entry.shape),
         None => step_raised(m),
     }
@@ -169,7 +162,6 @@ fn learn_and_step(
 /// while CS holds what it held.
 /// Source: 80386 Programmer's Reference Manual, ch. 9, "Exception 6" and "Exception 13", and ch. 17; window and memo are own.
 #[inline(always)]
-#[tactic(auto, using(crate::proofs::KnownSteps::known_step), unfolding(crate::specs::Step::has_big_code))]
 pub fn step_in_window(
     m: &mut Machine,
     memo: &mut Memo,
@@ -184,7 +176,7 @@ pub fn step_in_window(
 {
     m.holds_world();
     let low = m.words_in(window, from).low;
-    match memo.known(key_of(window, from), low, window.big) {
+    match memo.known(window.place + from, low) {
         Some(entry) => execute(m, &entry.insn, entry.len, entry.shape),
         None => learn_and_step(m, memo, window, from),
     }

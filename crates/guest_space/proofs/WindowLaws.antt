@@ -60,7 +60,8 @@ window_written v held xs w window =
     let same = same_all v xs in
     record {
       cs = window.cs ∙ sym (ap (λ (r : Regs). r.cs) same.regs);
-      big = window.big ∙ sym (big_same v.world (after_writes v xs).world same);
+      places = window.places;
+      big = λ from inside. window.big from inside ∙ sym (big_same v.world (after_writes v xs).world same);
       run = run_written v held xs w.first (w.starts + 14) w.address window.run;
       start = window.start;
     }
@@ -70,7 +71,8 @@ pub window_of_cs : (v : MachineView) (s : Regs) (on : Bool) (w : CodeWindow) →
 unfolding run_of_cs
 window_of_cs v s on w e window = record {
   cs = window.cs ∙ sym e;
-  big = window.big ∙ ap (is_big v.world.mode v.world.descriptors) (sym e);
+  places = window.places;
+  big = λ from inside. window.big from inside ∙ ap (is_big v.world.mode v.world.descriptors) (sym e);
   run = run_of_cs v s on w.first (w.starts + 14) w.address e window.run;
   start = window.start;
 }

@@ -1,5 +1,5 @@
 -- A window of code: bytes that may be fetched one after another, and that lie one after another in the memory. Source: own.
-use Rattle.std.specs.Prelude.{◌≡◌, ℕ, ◌+◌, ◌%◌, ◌≤◌, false, Ok}
+use Rattle.std.specs.Prelude.{◌≡◌, ℕ, ◌+◌, ◌*◌, ◌%◌, ◌<◌, ◌≤◌, false, nat_le, Ok}
 use Rattle.client_world.specs.{declared.host_frames.TheConstants.{PAGE_SIZE}, declared.segments.SegReg.TheVariants.{Cs}, Access.{linear}}
 use Rattle.client_world.specs.Access.{segment_base}
 use Rattle.guest_space.specs.{declared.windows.CodeWindow.{CodeWindow}, SegmentRows.{is_big}, Transfer.{translated}}
@@ -12,9 +12,10 @@ pub record IsCodeRun (v : MachineView) (first n address : ℕ) : Type 0 where
   pub room : linear (base + first) % PAGE_SIZE + n ≤ PAGE_SIZE
   pub ends : translated v (linear (base + first)) false ≡ Ok address
 
--- the window is one of the machine's code: from each of its starts 15 bytes may be fetched
+-- the window is one of the machine's code: from each of its starts 15 bytes may be fetched, and its place says the default size of code
 pub record IsWindow (v : MachineView) (w : CodeWindow) : Type 0 where
   pub cs : w.cs ≡ v.world.regs.cs
-  pub big : w.big ≡ is_big v.world.mode v.world.descriptors v.world.regs.cs
+  pub places : w.place + w.starts ≤ 2 * PAGE_SIZE
+  pub big : (from : ℕ) → from < w.starts → nat_le PAGE_SIZE (w.place + from) ≡ is_big v.world.mode v.world.descriptors v.world.regs.cs
   pub run : IsCodeRun v w.first (w.starts + 14) w.address
   pub start : w.linear ≡ linear (run.base + w.first)

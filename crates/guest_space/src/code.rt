@@ -79,13 +79,18 @@ impl Machine {
             return None;
         }
         let address = self.noted_address(linear, false)?;
+        let page = if self.is_big(SegReg::Cs) {
+            PAGE_SIZE
+        } else {
+            0
+        };
         Some(CodeWindow {
             cs: self.registers().cs,
-            big: self.is_big(SegReg::Cs),
             first,
             linear,
             address,
             starts: size.saturating_sub(MORE_CODE),
+            place: page + linear % PAGE_SIZE,
         })
     }
 

@@ -23,12 +23,28 @@ fn is_outside(at: u32) -> bool
 }
 
 impl Host {
+    /// Which start of a window that turns hand on CS:EIP is; `None` says nothing.
+    #[inline(always)]
+    #[tactic(auto, using(crate::proofs::WindowStarts::start_found))]
+    pub fn start_in(&self, window: &CodeWindow) -> Option<u32>
+        requires { HasWindow (machine_view self.now) window.now }
+        ensures { IfSome result (λ from.
+            IsTrapFree (machine_view self.now) window.now × IsStart self.now.world.machine window.now from) }
+    {
+        let regs = self.machine.registers();
+        let from = regs.eip.wrapping_sub(window.first);
+        if from < window.starts && window.cs == regs.cs {
+            Some(from)
+        } else {
+            None
+        }
+    }
+
     // Puts the window of the client's page in the place of another, and says which start of it CS:EIP is; `None` where no window has it, or
     // its page is read-only memory, where the traps are.
     #[cold]
     #[inline(never)]
-    #[tactic(auto, using(crate::proofs::WindowStarts::no_starts, crate::proofs::WindowStarts::outside_rom, //
-    crate::proofs::WindowStarts::start_found))]
+    #[tactic(auto, using(crate::proofs::WindowStarts::no_starts, crate::proofs::WindowStarts::outside_rom))]
     fn move_window(&mut self, window: &mut CodeWindow) -> Option<u32>
         ensures host { self.new ≡ self.old }
         ensures window { HasWindow (machine_view self.new) window.new }
@@ -39,13 +55,12 @@ impl Host {
         if !is_outside(window.linear) {
             *window = CodeWindow::NONE;
         }
-        window.place_of(self.machine.registers())
+        self.start_in(window)
     }
 
     /// Which start of the window CS:EIP is: of the window that is there, or else of that of its page, which takes its place. `None` where
     /// no window shows it, or a trap may be there: it says nothing.
     #[inline(always)]
-    #[tactic(auto, using(crate::proofs::WindowStarts::start_found))]
     pub fn find_start(&mut self, window: &mut CodeWindow) -> Option<u32>
         requires { HasWindow (machine_view self.old) window.old }
         ensures host { self.new ≡ self.old }
@@ -53,7 +68,7 @@ impl Host {
         ensures found { IfSome result (λ from.
             IsTrapFree (machine_view self.new) window.new × IsStart self.new.world.machine window.new from) }
     {
-        match window.place_of(self.machine.registers()) {
+        match self.start_in(window) {
             Some(from) => Some(from),
             None => self.move_window(window),
         }

@@ -1,8 +1,8 @@
 // Instructions that were decoded before.
-ghost use Rattle.std.specs.Prelude.{◌≡◌, ◌<◌, ◌*◌, ◌^◌, ◌%◌, IfSome, IsTrue, length, take};
+ghost use Rattle.std.specs.Prelude.{◌≡◌, ◌<◌, ◌*◌, ◌^◌, ◌%◌, ℕ, IfSome, HoldsAt, IsTrue, length, take};
 ghost use Rattle.client_world.specs.{CodeWords.{code_bytes}, declared.code.CodeWords.{CodeWords as Words}};
 ghost use Rattle.insn_decode.specs.{Decode.{decoded}, declared.decoding.Decoded.TheVariants.{Whole}, declared.memo.TheConstants.{PLACES}};
-ghost use Rattle.insn_decode.specs.declared.memo.TheConstants.{WORD_BYTES};
+ghost use Rattle.insn_decode.specs.{declared.memo.TheConstants.{WORD_BYTES}, Memo.{IsDecoded, is_big_place}};
 ghost use Rattle.insn_forms.specs.{Kinds.{IsWellFormed}, Shapes.{HasShape}};
 
 use crate::decoding::{Decoded, decode};
@@ -11,8 +11,11 @@ use client_world::{CodeWords, SegReg};
 use insn_forms::{Insn, Op, Operand, Rep, every_instruction_is_well_formed};
 use std::alloc::{AllocError, Global};
 
-/// The places of a memo: a power of two, so that the place of a key is its low bits.
-const PLACES: usize = 4096;
+/// The places of a memo. Those of the second half are for code in which operands and addresses have 32 bits by default.
+pub const PLACES: u32 = 2 * HALF;
+
+// The places for code of one default size: as many as a page has bytes.
+const HALF: u32 = 4096;
 
 // The bytes of a code word.
 const WORD_BYTES: u8 = 8;
@@ -57,35 +60,33 @@ impl Start {
     }
 }
 
-/// An instruction, its length and its shape, beside what it was decoded from: 15 code bytes, and whether operands and addresses have
-/// 32 bits by default. One of at most 8 bytes is found by the low word of the code alone, a longer one by all 15 bytes.
+/// An instruction, its length and its shape, beside the 15 code bytes that it was decoded from. One of at most 8 bytes is found by the low
+/// word of the code alone, a longer one by all 15 bytes.
 #[derive(Clone, Copy)]
 pub struct Entry {
     words: CodeWords,
-    big: bool,
     start: Start,
     pub insn: Insn,
     pub len: u8,
     pub shape: u8,
-    ghost short: { (w : Words) → w.low * start.scale % 2 ^ 64 ≡ start.scaled → decoded big (code_bytes w) ≡ Whole insn len },
-    ghost long: { WORD_BYTES < len → decoded big (code_bytes words) ≡ Whole insn len },
     ghost well_formed: { IsWellFormed insn },
     ghost shaped: { HasShape shape insn },
 }
 
-/// A memo of decoded instructions. Each entry is what `decode` returns for the bytes that are beside it, so that none is ever out of
-/// date. The entry of an empty place matches no code. Source: own.
+/// A memo of decoded instructions. Each entry is what `decode` returns for the bytes that are beside it and the default size that its place
+/// says, so that none is ever out of date. The entry of an empty place matches no code. Source: own.
 #[derive(Drop)]
 pub struct Memo {
     entries: Vec<Entry>,
     ghost places: { length entries.items ≡ PLACES },
+    ghost decoded: { (k : ℕ) → k < PLACES →
+        HoldsAt (λ e. IsDecoded (is_big_place k) e.start e.words e.insn e.len) entries.items k },
 }
 
 impl Entry {
     // The entry of an empty place. Its instruction is never used.
     const NONE: Entry = Entry {
         words: CodeWords { low: 0, high: 0 },
-        big: false,
         start: Start::NONE,
         insn: Insn {
             op: Op::Clc,
@@ -104,7 +105,8 @@ impl Entry {
 
     // The entry of these bytes, where they begin with an instruction.
     fn new(words: CodeWords, big: bool) -> Option<Entry>
-        ensures { IfSome result (λ e. decoded big (code_bytes words) ≡ Whole e.insn e.len) }
+        ensures decoded { IfSome result (λ e. IsDecoded big e.start e.words e.insn e.len) }
+        ensures read { IfSome result (λ e. decoded big (code_bytes words) ≡ Whole e.insn e.len) }
     {
         let code = ArrayVec::from(words.bytes());
         match decode(&code, big) {
@@ -112,7 +114,6 @@ impl Entry {
                 every_instruction_is_well_formed();
                 Some(Entry {
                     words,
-                    big,
                     start: Start::new(words.low, len),
                     insn,
                     len,
@@ -123,19 +124,11 @@ impl Entry {
         }
     }
 
-    // Whether code with this low word begins with its instruction, of at most 8 bytes, with that default size.
-    #[inline(always)]
-    fn matches(&self, low: u64, big: bool) -> bool
-        ensures { IsTrue result → (w : Words) → w.low ≡ low → decoded big (code_bytes w) ≡ Whole self.now.insn self.now.len }
+    // Whether these bytes are those of its instruction, which has more than 8.
+    fn matches_long(&self, words: CodeWords) -> bool
+        ensures { IsTrue result → (WORD_BYTES < self.now.len) × (self.now.words ≡ words) }
     {
-        self.start.matches(low) && self.big == big
-    }
-
-    // Whether these bytes begin with its instruction, of more than 8 bytes, with that default size.
-    fn matches_long(&self, words: CodeWords, big: bool) -> bool
-        ensures { IsTrue result → decoded big (code_bytes words) ≡ Whole self.now.insn self.now.len }
-    {
-        self.len > WORD_BYTES && self.big == big && self.words == words
+        self.len > WORD_BYTES && self.words == words
     }
 }
 
@@ -143,22 +136,23 @@ impl Memo {
     /// An empty memo, or the error of its allocation. Source: own.
     #[tactic(auto, unfolding(insn_forms::specs::Kinds::operation))]
     pub fn new(alloc: Global) -> Result<Memo, AllocError> {
-        let entries = vec![in alloc; Entry::NONE; PLACES]?;
+        let entries = vec![in alloc; Entry::NONE; PLACES as usize]?;
         Ok(Memo { entries })
     }
 
-    /// The instruction of at most 8 bytes that code with this low word begins with, whatever follows it, where the memo has it; `None` says
-    /// nothing. The key, an address of the code, says where to look. `big`: code of 32 bits.
+    /// The instruction of at most 8 bytes that code with this low word begins with, whatever follows it, where the memo has it at that
+    /// place; `None` says nothing. The place also says the default size of the code.
     /// Source: own.
     #[inline(always)]
-    pub fn known(&self, key: u32, low: u64, big: bool) -> Option<&Entry>
+    pub fn known(&self, place: u32, low: u64) -> Option<&Entry>
+        requires { place < PLACES }
         ensures decoded { IfSome result (λ e. (w : Words) → w.low ≡ low →
-            decoded big (code_bytes w) ≡ Whole e.now.insn e.now.len) }
+            decoded (is_big_place place) (code_bytes w) ≡ Whole e.now.insn e.now.len) }
         ensures well_formed { IfSome result (λ e. IsWellFormed e.now.insn) }
         ensures shaped { IfSome result (λ e. HasShape e.now.shape e.now.insn) }
     {
-        let entry = &self.entries[key as usize % PLACES];
-        if entry.matches(low, big) {
+        let entry = &self.entries[place as usize];
+        if entry.start.matches(low) {
             Some(entry)
         } else {
             None
@@ -166,18 +160,19 @@ impl Memo {
     }
 
     /// The instruction that these bytes begin with, of any length; `None` where they begin with none, and then nothing is kept. Unless the
-    /// memo has it as one of more than 8 bytes, it is decoded, and kept where `known` looks for it.
+    /// memo has it as one of more than 8 bytes, it is decoded, and kept at that place, where `known` looks for it.
     /// Source: own.
     #[inline(never)]
-    pub fn learn(&mut self, key: u32, words: CodeWords, big: bool) -> Option<&Entry>
-        ensures decoded { IfSome result (λ e. decoded big (code_bytes words) ≡ Whole e.now.insn e.now.len) }
+    pub fn learn(&mut self, place: u32, words: CodeWords) -> Option<&Entry>
+        requires { place < PLACES }
+        ensures decoded { IfSome result (λ e. decoded (is_big_place place) (code_bytes words) ≡ Whole e.now.insn e.now.len) }
         ensures well_formed { IfSome result (λ e. IsWellFormed e.now.insn) }
         ensures shaped { IfSome result (λ e. HasShape e.now.shape e.now.insn) }
     {
-        let entry = &mut self.entries[key as usize % PLACES];
-        if !entry.matches_long(words, big) {
-            *entry = Entry::new(words, big)?;
+        let at = place as usize;
+        if !self.entries[at].matches_long(words) {
+            self.entries[at] = Entry::new(words, place >= HALF)?;
         }
-        Some(entry)
+        Some(&self.entries[at])
     }
 }

@@ -168,7 +168,7 @@ fn turn_elsewhere(h: &mut Host, w: &mut Watches, window: &mut CodeWindow) -> Res
 /// the run has ended. Source: own.
 #[inline(always)]
 #[tactic(auto, unfolding(crate::specs::Turn::turn_with_watchpoints), using(crate::proofs::TurnParts::none_watched, //
-crate::proofs::TurnParts::not_called, host_run::proofs::WindowStarts::start_found))]
+crate::proofs::TurnParts::not_called))]
 pub fn next_watched_turn(
     h: &mut Host,
     w: &mut Watches,
@@ -183,7 +183,7 @@ pub fn next_watched_turn(
 {
     // Nothing is watched, no hit waits, and a client's instruction calls no function: the turn is the host's.
     if w.is_unused() {
-        if let Some(from) = window.place_of(h.machine().registers()) {
+        if let Some(from) = h.start_in(window) {
             h.no_trap_in(window, from);
             return h.turn_in_window(window, from);
         }

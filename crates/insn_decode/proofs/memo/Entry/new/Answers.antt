@@ -8,19 +8,21 @@ new-requires c =
     let encoded = (c.decode.ensures.whole c.in-Whole.insn c.in-Whole.len c.in-Whole.is).0 in
     has_a_byte c.args.big c.in-Whole.insn c.in-Whole.len _ encoded
 
-pub invariant_of-result : goal.invariant_of-result
-invariant_of-result c =
+pub returns-in-Whole-clause-decoded : goal.returns-in-Whole-clause-decoded
+returns-in-Whole-clause-decoded c =
     let big = c.args.big in
     let insn = c.in-Whole.insn in
     let len = c.in-Whole.len in
     let words = c.args.words in
-    let encoded = (c.decode.ensures.whole insn len c.in-Whole.is).0 in
     let read : decoded big (code_bytes words) ≡ Whole insn len =
     ap (decoded big) (sym (c.from-code.ensures.0 ∙ c.bytes.ensures)) ∙ sym c.decode.ensures.read ∙ c.in-Whole.is in
     record {
       short = λ w same. decoded_start big insn len (code_bytes words) (code_bytes w) (are_code_bytes words)
           (c.new.ensures words w refl same) read;
       long = λ _. read;
-      well_formed = c.every_instruction_is_well_formed.ensures insn (big, _, encoded);
-      shaped = c.shape.ensures;
     }
+
+pub invariant_of-result : goal.invariant_of-result
+invariant_of-result c =
+    let encoded = (c.decode.ensures.whole c.in-Whole.insn c.in-Whole.len c.in-Whole.is).0 in
+    record { well_formed = c.every_instruction_is_well_formed.ensures c.in-Whole.insn (c.args.big, _, encoded); shaped = c.shape.ensures }

@@ -1,0 +1,5 @@
+use Rattle.cpu_step.proofs.{KnownSteps.{known_step}, steps.learn_and_step.Goals.{returns-in-Some as goal}}
+
+pub returns-in-Some : goal
+returns-in-Some c =
+    known_step _ _ _ _ _ _ _ _ c.requires.window c.requires.start c.words_in-words.ensures c.in-Some.ensures.decoded c.execute.ensures
