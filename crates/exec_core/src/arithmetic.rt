@@ -93,9 +93,9 @@ macro_rules! change_first {
                 $put
             }
             Operand::Reg { width, number } => {
-                let ($own, number) = (register_width::<$look>($width, *width)?, *number);
+                let ($own, $n) = (register_width::<$look>($width, *width)?, *number);
                 $(let $b = $look::source($m, $i.addr32, $second_width, &$i.second)?;)?
-                at_register!(number, $n => $change);
+                $change;
                 Ok(())
             }
             first => {

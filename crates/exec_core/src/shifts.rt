@@ -73,7 +73,8 @@ fn shift_at<const W: u8, L: Look, O: ShiftAt<W>>(m: &mut Machine, i: &Insn) -> R
     ensures { CarriesOutBy L.reported m.old m.new result (shift O.formula m.old.world i.now) }
 {
     change_first!(L, W, m, i, a, count: 8, ahead => shifted::<W, O>(m, a, count),
-        own, n => shift_register::<W, O>(m, own, n, count), form => shift_in_memory::<W, L, O>(m, i, form, ahead))
+        own, n => at_register!(n, n => shift_register::<W, O>(m, own, n, count)),
+        form => shift_in_memory::<W, L, O>(m, i, form, ahead))
 }
 
 /// SHL, SHR, SAR, ROL, ROR, RCL, RCR. Source: 80386 Programmer's Reference Manual, ch. 17.
