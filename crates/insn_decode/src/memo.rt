@@ -7,15 +7,13 @@ ghost use Rattle.insn_forms.specs.{Kinds.{IsWellFormed}, Shapes.{HasShape}};
 
 use crate::decoding::{Decoded, decode};
 use arrayvec::ArrayVec;
+use client_world::host_frames::PAGE_SIZE;
 use client_world::{CodeWords, SegReg};
 use insn_forms::{Insn, Op, Operand, Rep, every_instruction_is_well_formed};
 use std::alloc::{AllocError, Global};
 
-/// The places of a memo. Those of the second half are for code in which operands and addresses have 32 bits by default.
-pub const PLACES: u32 = 2 * HALF;
-
-// The places for code of one default size: as many as a page has bytes.
-const HALF: u32 = 4096;
+/// The places of a memo: one for each byte of a page, and as many again for code in which operands and addresses have 32 bits by default.
+pub const PLACES: u32 = 2 * PAGE_SIZE;
 
 // The bytes of a code word.
 const WORD_BYTES: u8 = 8;
@@ -171,7 +169,7 @@ impl Memo {
     {
         let at = place as usize;
         if !self.entries[at].matches_long(words) {
-            self.entries[at] = Entry::new(words, place >= HALF)?;
+            self.entries[at] = Entry::new(words, place >= PAGE_SIZE)?;
         }
         Some(&self.entries[at])
     }
