@@ -1,3 +1,4 @@
 pub mod BitLaws
+pub mod Elements
 pub mod OnRegisters
 pub mod Parts

@@ -197,7 +197,11 @@ impl<O: Binary> InsnRow for Arithmetic<O> {
     }
 }
 
-impl<const W: u8, O: Binary + BinaryAt<W>> ShapedRow<W, W> for Arithmetic<O> {
+impl<const W: u8, O: Binary + BinaryAt<W>> ShapedRow<W> for Arithmetic<O> {
+    const SECOND_WIDTH: u8 = W;
+
+    ghost SECOND_WIDTH = { W };
+
     #[inline(always)]
     fn on_register(self, m: &mut Machine, i: &Insn, n: u8, b: u32) {
         change::<W, O>(m, W, n, b);
@@ -255,7 +259,11 @@ impl<O: Binary> InsnRow for Comparison<O> {
     }
 }
 
-impl<const W: u8, O: Binary + BinaryAt<W>> ShapedRow<W, W> for Comparison<O> {
+impl<const W: u8, O: Binary + BinaryAt<W>> ShapedRow<W> for Comparison<O> {
+    const SECOND_WIDTH: u8 = W;
+
+    ghost SECOND_WIDTH = { W };
+
     #[inline(always)]
     fn on_register(self, m: &mut Machine, i: &Insn, n: u8, b: u32) {
         let a = register(m.registers(), W, n);
@@ -352,7 +360,11 @@ impl<O: Unary> InsnRow for OneOperand<O> {
     }
 }
 
-impl<const W: u8, O: Unary + UnaryAt<W>> ShapedRow<W, W> for OneOperand<O> {
+impl<const W: u8, O: Unary + UnaryAt<W>> ShapedRow<W> for OneOperand<O> {
+    const SECOND_WIDTH: u8 = W;
+
+    ghost SECOND_WIDTH = { W };
+
     #[inline(always)]
     fn on_register(self, m: &mut Machine, i: &Insn, n: u8, b: u32) {
         change_one::<W, O>(m, W, n);

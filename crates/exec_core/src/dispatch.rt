@@ -19,7 +19,7 @@ use crate::operations::{
     SubtractWithBorrow,
 };
 use crate::products::{Signed, Unsigned, divide, multiply, multiply_signed};
-use crate::shaped::{run_one, run_shift, run_two};
+use crate::shaped::{run_shaped, run_shift};
 use crate::shift_operations::{
     RotateLeft, RotateLeftThroughCarry, RotateRight, RotateRightThroughCarry, ShiftArithmeticRight,
     ShiftLeft, ShiftRight,
@@ -73,22 +73,22 @@ pub fn carry_out_core(
 {
     let shape = usize::from(shape);
     match insn.op {
-        Op::Mov if is_no_segment(&insn.first) && is_no_segment(&insn.second) => Some(run_two(
+        Op::Mov if is_no_segment(&insn.first) && is_no_segment(&insn.second) => Some(run_shaped(
             Mov, m, insn, shape,
         )),
-        Op::Add => Some(run_two(Arithmetic(Add), m, insn, shape)),
-        Op::Or => Some(run_two(Arithmetic(Or), m, insn, shape)),
-        Op::Adc => Some(run_two(Arithmetic(AddWithCarry), m, insn, shape)),
-        Op::Sbb => Some(run_two(Arithmetic(SubtractWithBorrow), m, insn, shape)),
-        Op::And => Some(run_two(Arithmetic(And), m, insn, shape)),
-        Op::Sub => Some(run_two(Arithmetic(Subtract), m, insn, shape)),
-        Op::Xor => Some(run_two(Arithmetic(ExclusiveOr), m, insn, shape)),
-        Op::Cmp => Some(run_two(Comparison(Subtract), m, insn, shape)),
-        Op::Test => Some(run_two(Comparison(And), m, insn, shape)),
-        Op::Inc => Some(run_one(OneOperand(Increment), m, insn, shape)),
-        Op::Dec => Some(run_one(OneOperand(Decrement), m, insn, shape)),
-        Op::Not => Some(run_one(OneOperand(Complement), m, insn, shape)),
-        Op::Neg => Some(run_one(OneOperand(Negate), m, insn, shape)),
+        Op::Add => Some(run_shaped(Arithmetic(Add), m, insn, shape)),
+        Op::Or => Some(run_shaped(Arithmetic(Or), m, insn, shape)),
+        Op::Adc => Some(run_shaped(Arithmetic(AddWithCarry), m, insn, shape)),
+        Op::Sbb => Some(run_shaped(Arithmetic(SubtractWithBorrow), m, insn, shape)),
+        Op::And => Some(run_shaped(Arithmetic(And), m, insn, shape)),
+        Op::Sub => Some(run_shaped(Arithmetic(Subtract), m, insn, shape)),
+        Op::Xor => Some(run_shaped(Arithmetic(ExclusiveOr), m, insn, shape)),
+        Op::Cmp => Some(run_shaped(Comparison(Subtract), m, insn, shape)),
+        Op::Test => Some(run_shaped(Comparison(And), m, insn, shape)),
+        Op::Inc => Some(run_shaped(OneOperand(Increment), m, insn, shape)),
+        Op::Dec => Some(run_shaped(OneOperand(Decrement), m, insn, shape)),
+        Op::Not => Some(run_shaped(OneOperand(Complement), m, insn, shape)),
+        Op::Neg => Some(run_shaped(OneOperand(Negate), m, insn, shape)),
         Op::Mul => Some(multiply::<Unsigned>(m, insn)),
         Op::Imul => Some(multiply_signed(m, insn)),
         Op::Div => Some(divide::<Unsigned>(m, insn)),

@@ -83,7 +83,11 @@ impl InsnRow for Mov {
     }
 }
 
-impl<const W: u8> ShapedRow<W, W> for Mov {
+impl<const W: u8> ShapedRow<W> for Mov {
+    const SECOND_WIDTH: u8 = W;
+
+    ghost SECOND_WIDTH = { W };
+
     #[inline(always)]
     fn on_register(self, m: &mut Machine, i: &Insn, n: u8, b: u32) {
         put_register(m, W, n, b);

@@ -10,13 +10,17 @@ use guest_space::Machine;
 use insn_forms::{Insn, MemForm, Operand};
 use insn_plan::{InsnRow, Look, Quick, Raised, register, run_row, shown_in_memory};
 
-/// A row that has a body for a first operand of W bits in a register and one in memory, where the second gives a number. In memory that is
-/// read at S bits.
-pub(crate) trait ShapedRow<const W: u8, const S: u8>: InsnRow {
+/// A row that has a body for a first operand of W bits in a register and one in memory, where the second gives a number.
+pub(crate) trait ShapedRow<const W: u8>: InsnRow {
+    /// At how many bits a second operand in memory is read.
+    const SECOND_WIDTH: u8;
+
+    ghost SECOND_WIDTH: { ℕ };
+
     /// Carries it out on the register of that number.
     fn on_register(self, m: &mut Machine, i: &Insn, n: u8, b: u32)
         requires width { IsWidth W }
-        requires operands { HasOperands m.old.world i.now W S (Reg W n) b }
+        requires operands { HasOperands m.old.world i.now W SECOND_WIDTH (Reg W n) b }
         ensures { CarriesOut m.old m.new (Ok tt) (Self.plan self m.old.world i.now) };
 
     /// Carries it out on memory where no look misses; where one does, nothing is changed.
@@ -28,7 +32,7 @@ pub(crate) trait ShapedRow<const W: u8, const S: u8>: InsnRow {
         b: u32,
     ) -> Result<(), L::Missed>
         requires width { IsWidth W }
-        requires operands { HasOperands m.old.world i.now W S (Mem form.now) b }
+        requires operands { HasOperands m.old.world i.now W SECOND_WIDTH (Mem form.now) b }
         ensures { CarriesOutBy L.reported m.old m.new result (Self.plan self m.old.world i.now) };
 }
 
@@ -74,7 +78,7 @@ fn second_number(m: &Machine, i: &Insn, shape: usize, known: u8, width: u8) -> u
 
 // The row on the register of a shape, where the second operand gives b.
 #[inline(always)]
-fn run_on<const W: u8, const S: u8, R: ShapedRow<W, S>>(
+fn run_on<const W: u8, R: ShapedRow<W>>(
     row: R,
     m: &mut Machine,
     i: &Insn,
@@ -87,7 +91,7 @@ fn run_on<const W: u8, const S: u8, R: ShapedRow<W, S>>(
     requires some { shape < 96 }
     requires width { shape_width shape ≡ W }
     requires number { n ≡ shape % 8 }
-    requires second { value_of m.old.world (source m.old.world.regs i.now.addr32 S i.now.second) ≡ Ok b }
+    requires second { value_of m.old.world (source m.old.world.regs i.now.addr32 R.SECOND_WIDTH i.now.second) ≡ Ok b }
     ensures { CarriesOut m.old m.new result (R.plan row m.old.world i.now) }
 {
     row.on_register(m, i, n, b);
@@ -96,7 +100,7 @@ fn run_on<const W: u8, const S: u8, R: ShapedRow<W, S>>(
 
 // The row on the register of a shape whose second operand is not in memory.
 #[inline(always)]
-fn run_on_register<const W: u8, const S: u8, R: ShapedRow<W, S>>(
+fn run_on_register<const W: u8, R: ShapedRow<W>>(
     row: R,
     m: &mut Machine,
     i: &Insn,
@@ -116,7 +120,7 @@ fn run_on_register<const W: u8, const S: u8, R: ShapedRow<W, S>>(
 
 // The row on the register of a shape whose second operand is in memory. It is read before the jump to the register.
 #[inline(never)]
-fn run_from_memory<const W: u8, R: ShapedRow<W, W>>(
+fn run_from_memory<const W: u8, R: ShapedRow<W>>(
     row: R,
     m: &mut Machine,
     i: &Insn,
@@ -129,7 +133,7 @@ fn run_from_memory<const W: u8, R: ShapedRow<W, W>>(
     requires width { shape_width shape ≡ W }
     ensures { CarriesOut m.old m.new result (R.plan row m.old.world i.now) }
 {
-    let Some(b) = shown_in_memory(m, i.addr32, W, &i.second) else {
+    let Some(b) = shown_in_memory(m, i.addr32, R::SECOND_WIDTH, &i.second) else {
         return run_row(row, m, i);
     };
     let number = (shape % 8) as u8;
@@ -138,7 +142,7 @@ fn run_from_memory<const W: u8, R: ShapedRow<W, W>>(
 
 // The row on memory, where the second operand gives b.
 #[inline(never)]
-fn run_on_memory<const W: u8, const S: u8, R: ShapedRow<W, S>>(
+fn run_on_memory<const W: u8, R: ShapedRow<W>>(
     row: R,
     m: &mut Machine,
     i: &Insn,
@@ -147,7 +151,7 @@ fn run_on_memory<const W: u8, const S: u8, R: ShapedRow<W, S>>(
     requires good { IsTrue (is_width i.now.width) }
     requires wide { IsWidth W }
     requires width { i.now.width ≡ W }
-    requires second { value_of m.old.world (source m.old.world.regs i.now.addr32 S i.now.second) ≡ Ok b }
+    requires second { value_of m.old.world (source m.old.world.regs i.now.addr32 R.SECOND_WIDTH i.now.second) ≡ Ok b }
     ensures { CarriesOut m.old m.new result (R.plan row m.old.world i.now) }
 {
     if let Operand::Mem(form) = &i.first {
@@ -160,7 +164,7 @@ fn run_on_memory<const W: u8, const S: u8, R: ShapedRow<W, S>>(
 
 // The row of a shape whose first operand is in memory.
 #[inline(always)]
-fn run_in_memory<const W: u8, const S: u8, R: ShapedRow<W, S>>(
+fn run_in_memory<const W: u8, R: ShapedRow<W>>(
     row: R,
     m: &mut Machine,
     i: &Insn,
@@ -180,9 +184,9 @@ fn run_in_memory<const W: u8, const S: u8, R: ShapedRow<W, S>>(
     run_on_memory(row, m, i, b)
 }
 
-// A row of two operands, one of which is in memory. It is out of line, so that a row on registers makes no call.
+// The row of an instruction of which an operand is in memory. It is out of line, so that a row on registers makes no call.
 #[inline(never)]
-fn run_two_with_memory<R: ShapedRow<8, 8> + ShapedRow<16, 16> + ShapedRow<32, 32>>(
+fn run_with_memory<R: ShapedRow<8> + ShapedRow<16> + ShapedRow<32>>(
     row: R,
     m: &mut Machine,
     i: &Insn,
@@ -197,17 +201,17 @@ fn run_two_with_memory<R: ShapedRow<8, 8> + ShapedRow<16, 16> + ShapedRow<32, 32
         72 73 74 75 76 77 78 79 => run_from_memory::<8, R>(row, m, i, shape),
         80 81 82 83 84 85 86 87 => run_from_memory::<16, R>(row, m, i, shape),
         88 89 90 91 92 93 94 95 => run_from_memory::<32, R>(row, m, i, shape),
-        96 97 98 99 100 101 102 103 120 => run_in_memory::<8, 8, R>(row, m, i, shape, known),
-        104 105 106 107 108 109 110 111 121 => run_in_memory::<16, 16, R>(row, m, i, shape, known),
-        112 113 114 115 116 117 118 119 122 => run_in_memory::<32, 32, R>(row, m, i, shape, known),
+        96 97 98 99 100 101 102 103 120 123 => run_in_memory::<8, R>(row, m, i, shape, known),
+        104 105 106 107 108 109 110 111 121 124 => run_in_memory::<16, R>(row, m, i, shape, known),
+        112 113 114 115 116 117 118 119 122 125 => run_in_memory::<32, R>(row, m, i, shape, known),
         _ => run_row(row, m, i)
     )
 }
 
-/// Carries out an instruction of two operands as `run_row` does. Its shape leads to its register; it is as wide as a pointer, so that the
-/// jump by it needs no conversion. Source: own.
+/// Carries out an instruction as `run_row` does. Its shape leads to its register; it is as wide as a pointer, so that the jump by it needs
+/// no conversion. Source: own.
 #[inline(never)]
-pub(crate) fn run_two<R: ShapedRow<8, 8> + ShapedRow<16, 16> + ShapedRow<32, 32>>(
+pub(crate) fn run_shaped<R: ShapedRow<8> + ShapedRow<16> + ShapedRow<32>>(
     row: R,
     m: &mut Machine,
     i: &Insn,
@@ -219,16 +223,16 @@ pub(crate) fn run_two<R: ShapedRow<8, 8> + ShapedRow<16, 16> + ShapedRow<32, 32>
 {
     at_shape!(
         shape, known,
-        0 1 2 3 4 5 6 7 24 25 26 27 28 29 30 31 => run_on_register::<8, 8, R>(row, m, i, shape, known),
-        8 9 10 11 12 13 14 15 32 33 34 35 36 37 38 39 => run_on_register::<16, 16, R>(row, m, i, shape, known),
-        16 17 18 19 20 21 22 23 40 41 42 43 44 45 46 47 => run_on_register::<32, 32, R>(row, m, i, shape, known),
-        _ => run_two_with_memory(row, m, i, shape)
+        0 1 2 3 4 5 6 7 24 25 26 27 28 29 30 31 48 49 50 51 52 53 54 55 => run_on_register::<8, R>(row, m, i, shape, known),
+        8 9 10 11 12 13 14 15 32 33 34 35 36 37 38 39 56 57 58 59 60 61 62 63 => run_on_register::<16, R>(row, m, i, shape, known),
+        16 17 18 19 20 21 22 23 40 41 42 43 44 45 46 47 64 65 66 67 68 69 70 71 => run_on_register::<32, R>(row, m, i, shape, known),
+        _ => run_with_memory(row, m, i, shape)
     )
 }
 
-// A shift of a number in memory by an immediate.
+/// The same for a shift by an immediate. It has no arms for the other shapes, so that the compiler writes the shift out in each.
 #[inline(never)]
-fn run_shift_with_memory<R: ShapedRow<8, 8> + ShapedRow<16, 8> + ShapedRow<32, 8>>(
+pub(crate) fn run_shift<R: ShapedRow<8> + ShapedRow<16> + ShapedRow<32>>(
     row: R,
     m: &mut Machine,
     i: &Insn,
@@ -240,72 +244,9 @@ fn run_shift_with_memory<R: ShapedRow<8, 8> + ShapedRow<16, 8> + ShapedRow<32, 8
 {
     at_shape!(
         shape, known,
-        120 => run_in_memory::<8, 8, R>(row, m, i, shape, known),
-        121 => run_in_memory::<16, 8, R>(row, m, i, shape, known),
-        122 => run_in_memory::<32, 8, R>(row, m, i, shape, known),
-        _ => run_row(row, m, i)
-    )
-}
-
-/// The same for a shift by an immediate, of which a byte counts.
-#[inline(never)]
-pub(crate) fn run_shift<R: ShapedRow<8, 8> + ShapedRow<16, 8> + ShapedRow<32, 8>>(
-    row: R,
-    m: &mut Machine,
-    i: &Insn,
-    shape: usize,
-) -> Result<(), Raised>
-    requires width { IsTrue (is_width i.now.width) }
-    requires shape { HasShape shape i.now }
-    ensures { CarriesOut m.old m.new result (R.plan row m.old.world i.now) }
-{
-    at_shape!(
-        shape, known,
-        24 25 26 27 28 29 30 31 => run_on_register::<8, 8, R>(row, m, i, shape, known),
-        32 33 34 35 36 37 38 39 => run_on_register::<16, 8, R>(row, m, i, shape, known),
-        40 41 42 43 44 45 46 47 => run_on_register::<32, 8, R>(row, m, i, shape, known),
-        _ => run_shift_with_memory(row, m, i, shape)
-    )
-}
-
-// A row of one operand in memory.
-#[inline(never)]
-fn run_one_with_memory<R: ShapedRow<8, 8> + ShapedRow<16, 16> + ShapedRow<32, 32>>(
-    row: R,
-    m: &mut Machine,
-    i: &Insn,
-    shape: usize,
-) -> Result<(), Raised>
-    requires width { IsTrue (is_width i.now.width) }
-    requires shape { HasShape shape i.now }
-    ensures { CarriesOut m.old m.new result (R.plan row m.old.world i.now) }
-{
-    at_shape!(
-        shape, known,
-        123 => run_in_memory::<8, 8, R>(row, m, i, shape, known),
-        124 => run_in_memory::<16, 16, R>(row, m, i, shape, known),
-        125 => run_in_memory::<32, 32, R>(row, m, i, shape, known),
-        _ => run_row(row, m, i)
-    )
-}
-
-/// The same for an instruction of one operand.
-#[inline(never)]
-pub(crate) fn run_one<R: ShapedRow<8, 8> + ShapedRow<16, 16> + ShapedRow<32, 32>>(
-    row: R,
-    m: &mut Machine,
-    i: &Insn,
-    shape: usize,
-) -> Result<(), Raised>
-    requires width { IsTrue (is_width i.now.width) }
-    requires shape { HasShape shape i.now }
-    ensures { CarriesOut m.old m.new result (R.plan row m.old.world i.now) }
-{
-    at_shape!(
-        shape, known,
-        48 49 50 51 52 53 54 55 => run_on_register::<8, 8, R>(row, m, i, shape, known),
-        56 57 58 59 60 61 62 63 => run_on_register::<16, 16, R>(row, m, i, shape, known),
-        64 65 66 67 68 69 70 71 => run_on_register::<32, 32, R>(row, m, i, shape, known),
-        _ => run_one_with_memory(row, m, i, shape)
+        24 25 26 27 28 29 30 31 => run_on_register::<8, R>(row, m, i, shape, known),
+        32 33 34 35 36 37 38 39 => run_on_register::<16, R>(row, m, i, shape, known),
+        40 41 42 43 44 45 46 47 => run_on_register::<32, R>(row, m, i, shape, known),
+        _ => run_with_memory(row, m, i, shape)
     )
 }

@@ -90,7 +90,11 @@ impl<O: Shift> InsnRow for Shifting<O> {
     }
 }
 
-impl<const W: u8, O: Shift + ShiftAt<W>> ShapedRow<W, 8> for Shifting<O> {
+impl<const W: u8, O: Shift + ShiftAt<W>> ShapedRow<W> for Shifting<O> {
+    const SECOND_WIDTH: u8 = 8;
+
+    ghost SECOND_WIDTH = { 8 };
+
     #[inline(always)]
     fn on_register(self, m: &mut Machine, i: &Insn, n: u8, b: u32) {
         shift_register::<W, O>(m, W, n, b);

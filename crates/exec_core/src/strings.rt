@@ -2,14 +2,14 @@
 #![tactic(auto, unfolding(client_world::specs::General::with_general, crate::specs::Strings::movs, crate::specs::Strings::cmps, //
 crate::specs::Strings::stos, crate::specs::Strings::lods, insn_plan::specs::Registers::with_register, crate::specs::Strings::scas, //
 insn_plan::specs::Plan::after_plan, insn_plan::specs::Plan::after_commit, guest_space::specs::Pending::first_write_fault, //
-guest_space::specs::Pending::after_writes))]
+guest_space::specs::Pending::after_writes, cpu_alu::specs::Sums::sub_of))]
 
-ghost use Rattle.std.specs.Prelude.{◌≡◌, IsTrue};
+ghost use Rattle.std.specs.Prelude.{◌≡◌, ◌-◌, IsTrue, false, nat_eq};
 ghost use Rattle.exec_core.specs.Strings.{is_repeated, is_over, element_distance, moved_address, with_source_next, with_destination_next};
 ghost use Rattle.exec_core.specs.Strings.{repeated, goes_on_while, movs, cmps, stos, lods, scas};
 ghost use Rattle.insn_forms.specs.Kinds.{is_width};
 ghost use Rattle.guest_space.specs.Registers.{with_registers};
-ghost use Rattle.insn_plan.specs.{Looks.{CarriesOutBy}, Registers.{cut_address}};
+ghost use Rattle.insn_plan.specs.{Counter.{counter}, Looks.{CarriesOutBy}, Registers.{cut_address}};
 
 use crate::arithmetic::{difference_flags, flags_of};
 use client_world::general::{EAX, ECX, EDI, ESI};
@@ -113,35 +113,48 @@ fn move_destination(m: &mut Machine, i: &Insn, width: u8, addr32: bool)
     m.set_general(EDI, edi);
 }
 
-// Moves both to the next element.
+// The counter after an element of a repetition that isn't over.
 #[inline(always)]
-fn move_both(m: &mut Machine, i: &Insn, width: u8, addr32: bool)
-    requires width { width ≡ i.now.width }
+#[tactic(auto, using(crate::proofs::Elements::counted))]
+fn counter_left(m: &Machine, i: &Insn, addr32: bool) -> u32
     requires size { addr32 ≡ i.now.addr32 }
-    ensures { m.new ≡ with_registers (with_source_next m.old.world i.now (with_destination_next m.old.world i.now m.old.world.regs)) m.old }
+    requires some { nat_eq (counter m.now.world i.now) 0 ≡ false }
+    ensures left { result ≡ counter m.now.world i.now - 1 }
+    ensures last { nat_eq result 0 ≡ nat_eq (counter m.now.world i.now) 1 }
 {
-    let distance = element_distance(m, i, width);
-    let esi = next_element(addr32, m.registers().esi, distance);
-    let edi = next_element(addr32, m.registers().edi, distance);
-    m.set_general(ESI, esi);
-    m.set_general(EDI, edi);
+    cut_address(addr32, u64::from(m.registers().ecx) + 0xFFFF_FFFF)
 }
 
 // Counts an element under a repeat prefix: the counter goes down, and while there are more the instruction pointer goes back.
 #[inline(always)]
 fn count_element(m: &mut Machine, i: &Insn, addr32: bool, len: u8, goes_on: bool)
-    requires { addr32 ≡ i.now.addr32 }
+    requires size { addr32 ≡ i.now.addr32 }
+    requires some { is_over m.old.world i.now ≡ false }
     ensures { m.new ≡ with_registers (repeated m.old.world i.now len goes_on m.old.world.regs) m.old }
 {
     if is_repeated(i.rep) {
-        let count = cut_address(addr32, u64::from(m.registers().ecx));
-        let ecx = with_address(addr32, m.registers().ecx, count.saturating_sub(1));
-        if goes_on && count != 1 {
+        let left = counter_left(m, i, addr32);
+        m.set_general(ECX, with_address(addr32, m.registers().ecx, left));
+        if goes_on && left != 0 {
             let eip = u64::from(m.registers().eip) + 0x1_0000_0000 - u64::from(len);
             m.set_eip((eip % 0x1_0000_0000) as u32);
         }
-        m.set_general(ECX, ecx);
     }
+}
+
+// Moves both registers to the next element, and counts it. The count stands between them, so that each is changed in memory by itself.
+#[inline(always)]
+#[tactic(auto, using(crate::proofs::Elements::counted_between))]
+fn move_both(m: &mut Machine, i: &Insn, width: u8, addr32: bool, len: u8, goes_on: bool)
+    requires width { width ≡ i.now.width }
+    requires size { addr32 ≡ i.now.addr32 }
+    requires some { is_over m.old.world i.now ≡ false }
+    ensures { let w = m.old.world in
+        m.new ≡ with_registers (repeated w i.now len goes_on (with_source_next w i.now (with_destination_next w i.now w.regs))) m.old }
+{
+    move_source(m, i, width, addr32);
+    count_element(m, i, addr32, len, goes_on);
+    move_destination(m, i, width, addr32);
 }
 
 // Whether CMPS and SCAS go on: while ZF is set (F3), or clear (F2).
@@ -174,8 +187,7 @@ fn movs_at<const W: u8, const A: bool, L: Look>(
     let v = L::read(m, i.seg, from, W)?;
     let to = destination_offset(m, A);
     L::write(m, SegReg::Es, to, W, v)?;
-    move_both(m, i, W, A);
-    count_element(m, i, A, len, true);
+    move_both(m, i, W, A, len, true);
     Ok(())
 }
 
@@ -214,10 +226,9 @@ fn cmps_at<const W: u8, const A: bool, L: Look>(
     let a = L::read(m, i.seg, first, W)?;
     let second = destination_offset(m, A);
     let b = L::read(m, SegReg::Es, second, W)?;
-    move_both(m, i, W, A);
     let flags = difference_flags(W, a, b, flags_of(m));
     m.set_flags(flags);
-    count_element(m, i, A, len, goes_on_while(i.rep, flags));
+    move_both(m, i, W, A, len, goes_on_while(i.rep, flags));
     Ok(())
 }
 

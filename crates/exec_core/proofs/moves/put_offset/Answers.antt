@@ -1,4 +1,4 @@
-use Rattle.std.proofs.Common.{◌≡◌, ◌%◌, ◌∙◌, arith, refl}
+use Rattle.std.proofs.Common.{◌≡◌, ◌%◌, ◌∙◌, arith}
 use Rattle.exec_core.proofs.{OnRegisters.{lea_on, shaped_first}, moves.put_offset.Goals.{returns as goal}}
 use Rattle.insn_forms.specs.Shapes.{shape_width}
 

@@ -1,5 +1,5 @@
 use Rattle.{std.proofs.Common.{◌∙◌, sym, ap, Ok}, host_memory.specs.View.{MachineView}}
-use Rattle.exec_core.proofs.{OnRegisters.{shift_on}, shifts.ShiftingShapedRow8.on_register.Goals.{returns as goal}}
+use Rattle.exec_core.proofs.{OnRegisters.{shift_on}, shifts.ShiftingShapedRow.on_register.Goals.{returns as goal}}
 
 pub returns : goal
 returns g c =
