@@ -11,73 +11,73 @@ use Rattle.exec_core.specs.{Stacks.{push, pop, pusha, popa}, Strings.{is_repeate
 use Rattle.exec_core.specs.Strings.{repeated, goes_on_while, movs, cmps, stos, lods, scas}
 use Rattle.insn_forms.specs.{declared.insn.Insn.{Insn}, declared.insn.Op.{Op}}
 use Rattle.insn_plan.specs.{Registers.{register, with_register}, Stack.{with_pushed_number, regs_after_pops}}
-use Rattle.cpu_step.proofs.SegmentWords.{HoldWords, LeavesWords, words_if, leaves_if, words_register, words_put, words_pushed}
+use Rattle.cpu_step.proofs.SegmentWords.{HoldWith, LeavesWith, words_if, leaves_if, words_register, words_put, words_pushed}
 use Rattle.insn_forms.specs.declared.insn.Op.TheVariants as ops
 
 -- ---- arithmetic, shifts and bits
 
 -- ---- decimal adjustment, products and quotients
 
-with_ax_words : (r : Regs) (result : ℕ × Flags) → HoldWords r → HoldWords (with_ax_in r result)
+with_ax_words : {P : ℕ → Type 0} (r : Regs) (result : ℕ × Flags) → HoldWith P r → HoldWith P (with_ax_in r result)
 with_ax_words r result s = words_register _ _ _ _ s
 
-adjust_leaves : (f : ℕ → Flags → ℕ × Flags) (w : World) → HoldWords w.regs → LeavesWords (adjust f w)
+adjust_leaves : {P : ℕ → Type 0} (f : ℕ → Flags → ℕ × Flags) (w : World) → HoldWith P w.regs → LeavesWith P (adjust f w)
 unfolding adjust
 adjust_leaves f w s = with_ax_words w.regs _ s
 
-aad_leaves : (w : World) (i : Insn) → HoldWords w.regs → LeavesWords (aad w i)
+aad_leaves : {P : ℕ → Type 0} (w : World) (i : Insn) → HoldWith P w.regs → LeavesWith P (aad w i)
 unfolding aad
 aad_leaves w i s = λ base. with_ax_words w.regs _ s
 
-aam_done_leaves : (w : World) (o : Option (ℕ × Flags)) → HoldWords w.regs → LeavesWords (aam_done w o)
+aam_done_leaves : {P : ℕ → Type 0} (w : World) (o : Option (ℕ × Flags)) → HoldWith P w.regs → LeavesWith P (aam_done w o)
 aam_done_leaves w None s = tt
 aam_done_leaves w (Some result) s = with_ax_words w.regs result s
 
-aam_leaves : (w : World) (i : Insn) → HoldWords w.regs → LeavesWords (aam w i)
+aam_leaves : {P : ℕ → Type 0} (w : World) (i : Insn) → HoldWith P w.regs → LeavesWith P (aam w i)
 unfolding aam
 aam_leaves w i s = λ base. aam_done_leaves w _ s
 
-double_words : (width low high : ℕ) (r : Regs) → HoldWords r → HoldWords (with_double width low high r)
+double_words : {P : ℕ → Type 0} (width low high : ℕ) (r : Regs) → HoldWith P r → HoldWith P (with_double width low high r)
 double_words width low high r s = words_register _ _ _ _ (words_register _ _ _ _ s)
 
-multiply_leaves : (f : Product) (w : World) (i : Insn) → HoldWords w.regs → LeavesWords (multiply f w i)
+multiply_leaves : {P : ℕ → Type 0} (f : Product) (w : World) (i : Insn) → HoldWith P w.regs → LeavesWith P (multiply f w i)
 unfolding multiply
 multiply_leaves f w i s = λ a. double_words _ _ _ _ s
 
-imul_leaves : (w : World) (i : Insn) → HoldWords w.regs → LeavesWords (imul w i)
+imul_leaves : {P : ℕ → Type 0} (w : World) (i : Insn) → HoldWith P w.regs → LeavesWith P (imul w i)
 unfolding imul multiply_two multiply_three
-imul_leaves w i s = leaves_if (is_empty i.second) _ _ (multiply_leaves _ w i s)
-    (leaves_if (is_empty i.third) _ _ (λ a b. words_put _ _ _ _ _ _ s) (λ a b. words_put _ _ _ _ _ _ s))
+imul_leaves w i s = leaves_if _ (is_empty i.second) _ _ (multiply_leaves _ w i s)
+    (leaves_if _ (is_empty i.third) _ _ (λ a b. words_put _ _ _ _ _ _ s) (λ a b. words_put _ _ _ _ _ _ s))
 
-divided_leaves : (w : World) (width : ℕ) (o : Option (ℕ × ℕ)) → HoldWords w.regs → LeavesWords (divided w width o)
+divided_leaves : {P : ℕ → Type 0} (w : World) (width : ℕ) (o : Option (ℕ × ℕ)) → HoldWith P w.regs → LeavesWith P (divided w width o)
 divided_leaves w width None s = tt
 divided_leaves w width (Some q) s = double_words width q.0 q.1 w.regs s
 
-divide_leaves : (f : Quotient) (w : World) (i : Insn) → HoldWords w.regs → LeavesWords (divide f w i)
+divide_leaves : {P : ℕ → Type 0} (f : Quotient) (w : World) (i : Insn) → HoldWith P w.regs → LeavesWith P (divide f w i)
 unfolding divide
 divide_leaves f w i s = λ by. divided_leaves w i.width _ s
 
 -- ---- moves and flags
 
-xlat_leaves : (w : World) (i : Insn) → HoldWords w.regs → LeavesWords (xlat w i)
+xlat_leaves : {P : ℕ → Type 0} (w : World) (i : Insn) → HoldWith P w.regs → LeavesWith P (xlat w i)
 unfolding xlat
 xlat_leaves w i s = λ v. words_register _ _ _ _ s
 
-cbw_leaves : (w : World) (i : Insn) → HoldWords w.regs → LeavesWords (cbw w i)
+cbw_leaves : {P : ℕ → Type 0} (w : World) (i : Insn) → HoldWith P w.regs → LeavesWith P (cbw w i)
 unfolding cbw
 cbw_leaves w i s = words_register _ _ _ _ s
 
-cwd_leaves : (w : World) (i : Insn) → HoldWords w.regs → LeavesWords (cwd w i)
+cwd_leaves : {P : ℕ → Type 0} (w : World) (i : Insn) → HoldWith P w.regs → LeavesWith P (cwd w i)
 unfolding cwd
 cwd_leaves w i s = words_register _ _ _ _ s
 
-lahf_leaves : (w : World) → HoldWords w.regs → LeavesWords (lahf w)
+lahf_leaves : {P : ℕ → Type 0} (w : World) → HoldWith P w.regs → LeavesWith P (lahf w)
 unfolding lahf
 lahf_leaves w s = words_register _ _ _ _ s
 
 -- ---- stacks
 
-popa_leaves : (w : World) (i : Insn) → HoldWords w.regs → LeavesWords (popa w i)
+popa_leaves : {P : ℕ → Type 0} (w : World) (i : Insn) → HoldWith P w.regs → LeavesWith P (popa w i)
 unfolding popa regs_after_pops
 popa_leaves w i s = λ di si bp bx dx cx ax.
     let none = regs_after_pops w i.width 8 w.regs in
@@ -92,39 +92,40 @@ popa_leaves w i s = λ di si bp bx dx cx ax.
 
 -- ---- strings
 
-repeated_words : (w : World) (i : Insn) (len : ℕ) (goes_on : Bool) (r : Regs) → HoldWords r → HoldWords (repeated w i len goes_on r)
+repeated_words : {P : ℕ → Type 0} (w : World) (i : Insn) (len : ℕ) (goes_on : Bool) (r : Regs) → HoldWith P r →
+    HoldWith P (repeated w i len goes_on r)
 repeated_words w i len goes_on r s = words_if (is_repeated i.rep) _ _ s s
 
-movs_leaves : (w : World) (i : Insn) (len : ℕ) → HoldWords w.regs → LeavesWords (movs w i len)
+movs_leaves : {P : ℕ → Type 0} (w : World) (i : Insn) (len : ℕ) → HoldWith P w.regs → LeavesWith P (movs w i len)
 unfolding movs
 movs_leaves w i len s =
-    leaves_if (is_over w i) _ _ s (λ v. repeated_words w i len true (with_source_next w i (with_destination_next w i w.regs)) s)
+    leaves_if _ (is_over w i) _ _ s (λ v. repeated_words w i len true (with_source_next w i (with_destination_next w i w.regs)) s)
 
-cmps_leaves : (w : World) (i : Insn) (len : ℕ) → HoldWords w.regs → LeavesWords (cmps w i len)
+cmps_leaves : {P : ℕ → Type 0} (w : World) (i : Insn) (len : ℕ) → HoldWith P w.regs → LeavesWith P (cmps w i len)
 unfolding cmps
-cmps_leaves w i len s = leaves_if (is_over w i) _ _ s (λ a b.
+cmps_leaves w i len s = leaves_if _ (is_over w i) _ _ s (λ a b.
     let f = (sub_of i.width (cut i.width a) (cut i.width b) w.regs.flags).1 in
     repeated_words w i len (goes_on_while i.rep f) (with_source_next w i (with_destination_next w i (record w.regs { flags = f }))) s)
 
-stos_leaves : (w : World) (i : Insn) (len : ℕ) → HoldWords w.regs → LeavesWords (stos w i len)
+stos_leaves : {P : ℕ → Type 0} (w : World) (i : Insn) (len : ℕ) → HoldWith P w.regs → LeavesWith P (stos w i len)
 unfolding stos
-stos_leaves w i len s = leaves_if (is_over w i) _ _ s (repeated_words w i len true (with_destination_next w i w.regs) s)
+stos_leaves w i len s = leaves_if _ (is_over w i) _ _ s (repeated_words w i len true (with_destination_next w i w.regs) s)
 
-lods_leaves : (w : World) (i : Insn) (len : ℕ) → HoldWords w.regs → LeavesWords (lods w i len)
+lods_leaves : {P : ℕ → Type 0} (w : World) (i : Insn) (len : ℕ) → HoldWith P w.regs → LeavesWith P (lods w i len)
 unfolding lods
-lods_leaves w i len s = leaves_if (is_over w i) _ _ s (λ v.
+lods_leaves w i len s = leaves_if _ (is_over w i) _ _ s (λ v.
     repeated_words w i len true (with_source_next w i (with_register w.regs i.width 0 v)) (words_register _ _ _ _ s))
 
-scas_leaves : (w : World) (i : Insn) (len : ℕ) → HoldWords w.regs → LeavesWords (scas w i len)
+scas_leaves : {P : ℕ → Type 0} (w : World) (i : Insn) (len : ℕ) → HoldWith P w.regs → LeavesWith P (scas w i len)
 unfolding scas
-scas_leaves w i len s = leaves_if (is_over w i) _ _ s (λ b.
+scas_leaves w i len s = leaves_if _ (is_over w i) _ _ s (λ b.
     let f = (sub_of i.width (cut i.width (register w.regs i.width 0)) (cut i.width b) w.regs.flags).1 in
     repeated_words w i len (goes_on_while i.rep f) (with_destination_next w i (record w.regs { flags = f })) s)
 
 -- ---- all of them. A row that puts a number into an operand, pushes one, or leaves the registers is opened; each other one is shown by
 -- its lemma, which is found. The first line makes a case of each operation
 
-pub core_leaves : (op : Op) (w : World) (i : Insn) (len : ℕ) → HoldWords w.regs → LeavesWords (core_row op w i len)
+pub core_leaves : {P : ℕ → Type 0} (op : Op) (w : World) (i : Insn) (len : ℕ) → HoldWith P w.regs → LeavesWith P (core_row op w i len)
 unfolding core_row binary compare unary shift shift_in setcc bit_test bit_change bit_scan mov movzx movsx xchg lea push pop pusha
     regs_after_pops with_pushed_number clc stc cmc cld std sahf wait
 core_leaves ops.Add w i len s = λ a b. words_put _ _ _ _ _ _ s

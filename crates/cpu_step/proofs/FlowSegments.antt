@@ -1,7 +1,7 @@
 -- A row of exec_flow puts words alone into segment registers.
-use Rattle.std.proofs.Common.{ℕ, zero, suc, ◌+◌, ◌/◌, ◌%◌, ◌<◌, arith, nat_eq, nat_lt, Bool, false, None, Some}
-use Rattle.client_world.specs.{declared.descriptors.Desc.{Desc}, declared.registers.Mode.{Mode}, declared.registers.Mode.TheVariants.{Real}}
-use Rattle.client_world.specs.{declared.registers.Mode.TheVariants.{Protected}, declared.segments.SegReg.{SegReg}}
+use Rattle.std.proofs.Common.{ℕ, zero, suc, ◌+◌, ◌/◌, ◌%◌, ◌<◌, arith, nat_eq, nat_lt, if◌then◌else◌, Bool, true, false, None, Some}
+use Rattle.client_world.specs.{declared.descriptors.Desc.{Desc}, declared.faults.Fault.{Fault}, declared.registers.Mode.{Mode}}
+use Rattle.client_world.specs.{declared.registers.Mode.TheVariants.{Real, Protected}, declared.segments.SegReg.{SegReg}}
 use Rattle.client_world.specs.{declared.segments.SegReg.TheVariants.{Cs}, Loading.{register_fault, transfer_fault}, Selector.{Row}}
 use Rattle.client_world.specs.{Selector.{client_selector, privilege_of}, World.{World}}
 use Rattle.exec_flow.specs.{Dispatch.{flow_row}, FarTransfers.{code_selector, far_transfer, jump_far, call_far, far_frame_pop, retf}}
@@ -14,7 +14,7 @@ use Rattle.exec_flow.specs.{Segments.{pop_segment, load_pointer}, Transfers.{at_
 use Rattle.exec_flow.specs.Transfers.{call, immediate, ret}
 use Rattle.insn_forms.specs.{declared.insn.Insn.{Insn}, declared.insn.Op.{Op}, declared.insn.Operand.{Operand}}
 use Rattle.insn_forms.specs.declared.insn.Operand.TheVariants.{Empty, Reg, Seg, Mem, Imm, Far}
-use Rattle.insn_plan.specs.{Act.{Act, Pending}, Stack.{regs_after_pops}}
+use Rattle.insn_plan.specs.{Act.{Act, Pending, done, raise}, Stack.{regs_after_pops}}
 use Rattle.cpu_step.proofs.SegmentWords.{HoldWords, LeavesWords, leaves_if, leaves_by_mode, leaves_unless, words_register, words_put}
 use Rattle.cpu_step.proofs.SegmentWords.{words_pushed, words_selector, half_is_word}
 use Rattle.insn_forms.specs.declared.insn.Op.TheVariants as ops
@@ -23,7 +23,7 @@ use Rattle.insn_forms.specs.declared.insn.Op.TheVariants as ops
 
 near_leaves : (w : World) (i : Insn) (ip : ℕ) (p : Pending) → HoldWords p.regs → LeavesWords (near_transfer w i ip p)
 unfolding near_transfer
-near_leaves w i ip p s = leaves_unless (transfer_fault w w.regs.cs (at_operand_size i ip) false) _ s
+near_leaves w i ip p s = leaves_unless _ (transfer_fault w w.regs.cs (at_operand_size i ip) false) _ s
 
 -- ---- far transfers
 
@@ -39,7 +39,7 @@ far_leaves : (w : World) (sel ip : ℕ) (return : Bool) (p : Pending) → sel < 
     LeavesWords (far_transfer w sel ip return p)
 unfolding far_transfer
 far_leaves w sel ip return p small s =
-    leaves_unless (transfer_fault w sel ip return) _ (words_selector p.regs Cs (code_selector w sel) s (code_is_word w sel small))
+    leaves_unless _ (transfer_fault w sel ip return) _ (words_selector p.regs Cs (code_selector w sel) s (code_is_word w sel small))
 
 pub far_frame_leaves : (w : World) (bits bytes : ℕ) → HoldWords w.regs → LeavesWords (far_frame_pop w bits bytes)
 unfolding far_frame_pop regs_after_pops
@@ -54,7 +54,7 @@ frame_leaves w bits s = λ ip cs image. far_leaves w _ _ _ _ (half_is_word cs) s
 loaded_leaves : (w : World) (seg : SegReg) (sel : ℕ) (p : Pending) → sel < 0x10000 → HoldWords p.regs →
     LeavesWords (with_loaded_segment w seg sel p)
 unfolding with_loaded_segment
-loaded_leaves w seg sel p small s = leaves_unless (register_fault w seg sel) _ (words_selector p.regs seg sel s small)
+loaded_leaves w seg sel p small s = leaves_unless _ (register_fault w seg sel) _ (words_selector p.regs seg sel s small)
 
 mov_to_leaves : (w : World) (i : Insn) (seg : SegReg) → HoldWords w.regs → LeavesWords (mov_to_segment w i seg)
 unfolding mov_to_segment
@@ -102,8 +102,12 @@ frame_words w i frame p s = words_register _ _ _ _ s
 enter_leaves : (w : World) (i : Insn) → HoldWords w.regs → LeavesWords (enter w i)
 unfolding enter
 enter_leaves w i s =
-    leaves_if (nat_eq (immediate i.second % 32) 0) _ _ (frame_words w i _ _ (words_pushed _ _ _ _ s))
+    leaves_if _ (nat_eq (immediate i.second % 32) 0) _ _ (frame_words w i _ _ (words_pushed _ _ _ _ s))
     (frames_leave w i 1 _ _ _ (λ q t. frame_words w i _ _ (words_pushed _ _ _ _ t)) (words_pushed _ _ _ _ s))
+
+bound_leaves : (outside : Bool) (f : Fault) (p : Pending) → HoldWords p.regs → LeavesWords (if outside then raise f else done p)
+bound_leaves true f p s = tt
+bound_leaves false f p s = s
 
 leave_leaves : (w : World) (i : Insn) → HoldWords w.regs → LeavesWords (leave w i)
 unfolding leave regs_after_pops
@@ -111,7 +115,7 @@ leave_leaves w i s = λ bp. words_register _ _ _ _ s
 
 in_protected_leaves : (w : World) (act : Act) → LeavesWords act → LeavesWords (in_protected w act)
 unfolding in_protected invalid_opcode
-in_protected_leaves w act s = leaves_by_mode w.mode invalid_opcode act tt s
+in_protected_leaves w act s = leaves_by_mode _ w.mode invalid_opcode act tt s
 
 verify_leaves : (test : Row → Bool) (w : World) (i : Insn) → HoldWords w.regs → LeavesWords (verify test w i)
 unfolding verify
@@ -127,7 +131,7 @@ tell_leaves number w i s = in_protected_leaves w _ (λ sel. told_leaves number w
 
 arpl_leaves : (w : World) (i : Insn) → HoldWords w.regs → LeavesWords (arpl w i)
 unfolding arpl
-arpl_leaves w i s = in_protected_leaves w _ (λ a b. leaves_if (nat_lt (privilege_of a) (privilege_of b)) _ _ (words_put _ _ _ _ _ _ s) s)
+arpl_leaves w i s = in_protected_leaves w _ (λ a b. leaves_if _ (nat_lt (privilege_of a) (privilege_of b)) _ _ (words_put _ _ _ _ _ _ s) s)
 
 load_table_leaves : (w : World) → LeavesWords (load_table w)
 unfolding load_table privileged
@@ -154,6 +158,7 @@ flow_leaves _ w i len s = search (
   pop_segment_leaves,
   enter_leaves,
   leave_leaves,
+  bound_leaves,
   pointer_leaves,
   tell_leaves,
   verify_leaves,

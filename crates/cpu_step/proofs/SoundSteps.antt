@@ -1,5 +1,5 @@
--- Writes leave a sound world sound, and so do a plan whose segment registers hold words and a step of the client's; a window of code
--- outlives a step that keeps CS.
+-- Writes leave a sound world sound, and so do a plan whose segment registers hold words and a step of the client's; a row of exec_core
+-- keeps CS, and a window of code outlives a step that keeps it.
 use Rattle.std.proofs.Common.{◌≡◌, ℕ, zero, suc, ◌/◌, ◌%◌, ◌<◌, List, [], ◌∷◌, length, slice_index, refl, sym, subst, arith, nat_eq}
 use Rattle.std.proofs.Common.{if◌then◌else◌, Bool, true, false, Option, None, Some, Result, Ok, Err, ◌∙◌, ap}
 use Rattle.client_world.specs.{declared.faults.Event.{Event}, declared.faults.Event.TheVariants.{Fault as fault}}
@@ -11,15 +11,16 @@ use Rattle.guest_space.specs.{Pending.{after_writes}, Transfer.{places_of_access
 use Rattle.guest_space.specs.{Machines.{HoldsItsWorld}, Windows.{IsWindow}}
 use Rattle.guest_space.proofs.{Machines.{with_places_world}, OnlyWritten.{write_places}, WindowLaws.{window_of_cs, window_written}}
 use Rattle.host_memory.specs.{View.{MachineView}, Layout.{world_of}}
-use Rattle.insn_plan.specs.{Act.{Pending, Act}, Plan.{after_commit, with_state, plan_result, after_plan, Follows}}
+use Rattle.insn_plan.specs.{Act.{Pending, Act}, Plan.{after_commit, with_state, plan_result, after_plan, CarriesOut, Follows}}
 use Rattle.exec_core.specs.Dispatch.{is_core, core_row}
 use Rattle.exec_flow.specs.Dispatch.{flow_row}
 use Rattle.insn_decode.specs.{declared.decoding.Decoded.{Decoded}, declared.decoding.Decoded.TheVariants.{Whole, More, Invalid}}
 use Rattle.insn_decode.specs.Decode.{decoded}
 use Rattle.insn_forms.specs.declared.insn.Insn.{Insn}
-use Rattle.cpu_step.specs.Step.{has_big_code, code, view_with_next_eip, client_row, after_instruction, step_of, client_step}
-use Rattle.cpu_step.proofs.{CoreSegments.{core_leaves}, FlowSegments.{flow_leaves}, SegmentWords.{HoldWords, LeavesWords, words_of}}
-use Rattle.cpu_step.proofs.SegmentWords.{segments_of, leaves_if, planned_words}
+use Rattle.cpu_step.specs.{Windows.{IsHandedOn, IsInSegment}, Step.{has_big_code, code, view_with_next_eip, client_row, after_instruction}}
+use Rattle.cpu_step.specs.Step.{step_of, client_step}
+use Rattle.cpu_step.proofs.{CoreSegments.{core_leaves}, FlowSegments.{flow_leaves}, SegmentWords.{HoldWith, HoldWords, LeavesWith}}
+use Rattle.cpu_step.proofs.SegmentWords.{LeavesWords, words_of, segments_of, leaves_if, planned_words}
 use Rattle.std.specs.Prelude.{OnOk}
 use Rattle.insn_plan.proofs.WrittenState.{all_state}
 
@@ -101,13 +102,13 @@ sound_settled v u p segments s e = sound_unless v u p (first_write_fault v.world
 
 row_leaves : (w : World) (insn : Insn) (len : ℕ) → HoldWords w.regs → LeavesWords (client_row w insn len)
 unfolding client_row
-row_leaves w insn len s = leaves_if (is_core insn.op insn.first insn.second) (core_row insn.op w insn len) (flow_row insn.op w insn len)
+row_leaves w insn len s = leaves_if _ (is_core insn.op insn.first insn.second) (core_row insn.op w insn len) (flow_row insn.op w insn len)
     (core_leaves insn.op w insn len s) (flow_leaves insn.op w insn len s)
 
 pub sound_by_plan : (v u : MachineView) (act : Act) (r : Result Pending Event) → plan_result v.world act ≡ r → LeavesWords act →
     IsSound v.world → after_plan v r ≡ Ok u → IsSound u.world
 unfolding after_plan
-sound_by_plan v u act (Ok p) plan words s e = sound_settled v u p (planned_words v.world act p words plan) s e
+sound_by_plan v u act (Ok p) plan words s e = sound_settled v u p (segments_of p.regs (planned_words v.world act p words plan)) s e
 sound_by_plan v u act (Err event) plan words s e = absurd cc
 
 pub sound_behind : (v : MachineView) (len : ℕ) → IsSound v.world → IsSound (view_with_next_eip len v).world
@@ -129,6 +130,36 @@ sound_step_of v u Invalid s e = absurd cc
 pub sound_step : (v u : MachineView) → IsSound v.world → client_step v ≡ Ok u → IsSound u.world
 unfolding client_step
 sound_step v u s e = sound_step_of v u (decoded (has_big_code v.world) (code v.world)) s e
+
+-- ---- a row of exec_core keeps CS
+
+cs_unless : (v u : MachineView) (p : Pending) (o : Option Fault) →
+    elim o as (λ _. Result MachineView Event) [ Some f ↦ Err (fault f) | None ↦ Ok (with_state p.regs p.vif (after_writes v p.writes)) ]
+    ≡ Ok u → u.world.regs.cs ≡ p.regs.cs
+cs_unless v u p None e =
+    let is : with_state p.regs p.vif (after_writes v p.writes) ≡ u = cc in
+    sym (ap (λ (m : MachineView). m.world.regs.cs) is)
+cs_unless v u p (Some f) e = absurd cc
+
+cs_carried : (v u : MachineView) (act : Act) (r : Result Pending Event) → plan_result v.world act ≡ r →
+    LeavesWith (λ cs. cs ≡ v.world.regs.cs) act → after_plan v r ≡ Ok u → u.world.regs.cs ≡ v.world.regs.cs
+unfolding after_plan after_commit
+cs_carried v u act (Ok p) plan keeps e =
+    cs_unless v u p (first_write_fault v.world p.writes) e ∙ (planned_words v.world act p keeps plan).cs_fits
+cs_carried v u act (Err event) plan keeps e = absurd cc
+
+kept_by : (v u : MachineView) (act : Act) (w : CodeWindow) (r : Result (Unit {0}) Event) → LeavesWith (λ cs. cs ≡ v.world.regs.cs) act →
+    IsInSegment v w → CarriesOut v u r act → OnOk r (IsInSegment u w)
+kept_by v u act w (Ok _) keeps own carried = λ some. own some ∙ sym (cs_carried v u act (plan_result v.world act) refl keeps carried)
+kept_by v u act w (Err e) keeps own carried = tt
+
+pub core_keeps_cs : (v u : MachineView) (i : Insn) (len : ℕ) (w : CodeWindow) (r : Result (Unit {0}) Event) →
+    IsInSegment v w → IsSound v.world → CarriesOut v u r (core_row i.op v.world i len) → OnOk r (IsInSegment u w)
+core_keeps_cs v u i len w r own s carried =
+    let words = words_of v.world.regs s.segments in
+    let keeps : HoldWith (λ cs. cs ≡ v.world.regs.cs) v.world.regs = record { es_fits = words.es_fits; cs_fits = refl;
+      ss_fits = words.ss_fits; ds_fits = words.ds_fits; fs_fits = words.fs_fits; gs_fits = words.gs_fits } in
+    kept_by v u (core_row i.op v.world i len) w r (core_leaves i.op v.world i len keeps) own carried
 
 -- ---- windows of code
 
@@ -179,7 +210,14 @@ window_step : (v u : MachineView) (w : CodeWindow) → HoldsItsWorld v → IsWin
 unfolding client_step
 window_step v u w held window e same = window_step_of v u (decoded (has_big_code v.world) (code v.world)) w held window e same
 
-pub window_after : (v u : MachineView) (w : CodeWindow) (r : Result (Unit {0}) Event) → HoldsItsWorld v → IsWindow v w →
-    Follows v u r (client_step v) → OnOk r (u.world.regs.cs ≡ w.cs → IsWindow u w)
-window_after v u w (Ok _) held window step = λ same. window_step v u w held window step (same ∙ window.cs)
-window_after v u w (Err e) held window step = tt
+window_handed_on : (v u : MachineView) (old new : CodeWindow) → HoldsItsWorld v → IsWindow v old → IsHandedOn old new → IsInSegment u new →
+    client_step v ≡ Ok u → 0 < new.starts → IsWindow u new
+window_handed_on v u old new held window same own step some =
+    let is = same some in
+    let kept : u.world.regs.cs ≡ v.world.regs.cs = sym (own some) ∙ ap (λ (w : CodeWindow). w.cs) is ∙ window.cs in
+    rw is (window_step v u old held window step kept)
+
+pub window_after : (v u : MachineView) (old new : CodeWindow) (r : Result (Unit {0}) Event) → HoldsItsWorld v → IsWindow v old →
+    IsHandedOn old new → OnOk r (IsInSegment u new) → Follows v u r (client_step v) → OnOk r (0 < new.starts → IsWindow u new)
+window_after v u old new (Ok _) held window same own step = window_handed_on v u old new held window same own step
+window_after v u old new (Err e) held window same own step = tt

@@ -1,2 +1,3 @@
 pub mod Step
 pub mod Touched
+pub mod Windows

@@ -3,7 +3,8 @@ ghost use Rattle.std.specs.Prelude.{◌≡◌, ◌+◌, ◌<◌, OnOk};
 ghost use Rattle.guest_space.specs.{Registers.{with_registers}, Windows.{IsWindow}};
 ghost use Rattle.insn_forms.specs.{Kinds.{IsWellFormed}, Shapes.{HasShape}};
 ghost use Rattle.insn_plan.specs.Plan.{CarriesOut, Follows};
-ghost use Rattle.cpu_step.specs.Step.{view_with_next_eip, client_row, client_step, after_instruction, has_big_code, incomplete_fault};
+ghost use Rattle.cpu_step.specs.{Windows.{IsHandedOn, IsInSegment}, Step.{view_with_next_eip, client_row, client_step, after_instruction}};
+ghost use Rattle.cpu_step.specs.Step.{has_big_code, incomplete_fault};
 
 use arrayvec::ArrayVec;
 use client_world::faults::{GENERAL_PROTECTION, INVALID_OPCODE};
@@ -34,18 +35,34 @@ pub fn move_past(m: &mut Machine, len: u8)
     m.set_eip(m.registers().eip.wrapping_add(u32::from(len)));
 }
 
-// Runs an instruction of a shape, whose EIP is already after it, by the crate that has it.
+// Runs an instruction of a shape, whose EIP is already after it, by the crate that has it. Only one of exec_flow can change CS, which gives
+// the window up.
 #[inline(always)]
-#[tactic(auto, unfolding(crate::specs::Step::client_row), using(crate::proofs::CoreOrFlow::flow_where_not_core))]
-fn run(m: &mut Machine, insn: &Insn, len: u8, shape: u8) -> Result<(), Raised>
+#[tactic(auto, unfolding(crate::specs::Step::client_row), using(crate::proofs::CoreOrFlow::flow_where_not_core, //
+crate::proofs::SoundSteps::core_keeps_cs))]
+fn run(
+    m: &mut Machine,
+    window: &mut CodeWindow,
+    insn: &Insn,
+    len: u8,
+    shape: u8,
+) -> Result<(), Raised>
     requires well_formed { IsWellFormed insn.now }
     requires shape { HasShape shape insn.now }
-    ensures { CarriesOut m.old m.new result (client_row m.old.world insn.now len) }
+    requires segment { IsInSegment m.old window.old }
+    ensures carried { CarriesOut m.old m.new result (client_row m.old.world insn.now len) }
+    ensures window { IsHandedOn window.old window.new }
+    ensures segment { OnOk result (IsInSegment m.new window.new) }
 {
-    match carry_out_core(m, insn, len, shape) {
-        Some(result) => result,
-        None => carry_out_flow(m, insn, len),
+    m.soundness();
+    if let Some(result) = carry_out_core(m, insn, len, shape) {
+        return result;
     }
+    let result = carry_out_flow(m, insn, len);
+    if m.registers().cs != window.cs {
+        *window = CodeWindow::NONE;
+    }
+    result
 }
 
 // Puts the instruction pointer back for an event. Out of line, it leaves the way without one to ask for the answer once.
@@ -62,14 +79,23 @@ fn put_back(m: &mut Machine, start: u32, raised: Raised) -> Raised
 // Executes an instruction of `len` bytes and a shape; an event leaves the machine as it was, EIP too.
 #[inline(always)]
 #[tactic(auto, unfolding(crate::specs::Step::after_instruction))]
-fn execute(m: &mut Machine, insn: &Insn, len: u8, shape: u8) -> Result<(), Raised>
+fn execute(
+    m: &mut Machine,
+    window: &mut CodeWindow,
+    insn: &Insn,
+    len: u8,
+    shape: u8,
+) -> Result<(), Raised>
     requires well_formed { IsWellFormed insn.now }
     requires shape { HasShape shape insn.now }
-    ensures { Follows m.old m.new result (after_instruction m.old insn.now len) }
+    requires segment { IsInSegment m.old window.old }
+    ensures executed { Follows m.old m.new result (after_instruction m.old insn.now len) }
+    ensures window { IsHandedOn window.old window.new }
+    ensures segment { OnOk result (IsInSegment m.new window.new) }
 {
     let start = m.registers().eip;
     move_past(m, len);
-    match run(m, insn, len, shape) {
+    match run(m, window, insn, len, shape) {
         Ok(()) => Ok(()),
         Err(raised) => Err(put_back(m, start, raised)),
     }
@@ -105,7 +131,8 @@ pub fn step_raised(m: &mut Machine) -> Result<(), Raised>
     match decode(&code, has_big_code(m)) {
         Decoded::Whole(insn, len) => {
             every_instruction_is_well_formed();
-            execute(m, &insn, len, insn.shape())
+            let mut window = CodeWindow::NONE;
+            execute(m, &mut window, &insn, len, insn.shape())
         }
         Decoded::Invalid => Err(Raised::from(Fault {
             number: INVALID_OPCODE,
@@ -136,48 +163,60 @@ pub fn find_window(m: &mut Machine) -> CodeWindow
     m.code_window()
 }
 
-// Makes the instruction at that start of a window, where the memo lacks it or it has more than 8 bytes.
+// Makes the instruction at that start of a window, where the memo lacks it or it has more than 8 bytes, and gives the window that is handed
+// on. With the window, its answer comes back in memory: two answers in registers, one from either way, would be joined and asked once more.
 #[cold]
 #[inline(never)]
 fn learn_and_step(
     m: &mut Machine,
     memo: &mut Memo,
-    window: &CodeWindow,
+    window: CodeWindow,
     from: u32,
-) -> Result<(), Raised>
-    requires window { IsWindow m.old window.now }
-    requires start { from < window.now.starts }
-    requires here { window.now.first + from ≡ m.old.world.regs.eip }
-    ensures { Follows m.old m.new result (client_step m.old) }
+) -> (CodeWindow, Result<(), Raised>)
+    requires window { IsWindow m.old window }
+    requires start { from < window.starts }
+    requires here { window.first + from ≡ m.old.world.regs.eip }
+    ensures step { Follows m.old m.new result.1 (client_step m.old) }
+    ensures window { IsHandedOn window result.0 }
+    ensures segment { OnOk result.1 (IsInSegment m.new result.0) }
 {
-    let words = m.words_in(window, from);
+    let words = m.words_in(&window, from);
     match memo.learn(window.place + from, words) {
-        Some(entry) => execute(m, &entry.insn, entry.len, entry.shape),
-        None => step_raised(m),
+        Some(entry) => {
+            let mut handed_on = window;
+            let answer = execute(m, &mut handed_on, &entry.insn, entry.len, entry.shape);
+            (handed_on, answer)
+        }
+        None => (CodeWindow::NONE, step_raised(m)),
     }
 }
 
 /// Makes the client's next instruction as `step_raised` does, with a memo of the instructions that were decoded before. The instruction is
-/// known to lie in a window of code, at that start of it. An event leaves the machine as it was; else the window stays one of the machine's
-/// while CS holds what it held.
+/// known to lie in a window of code, at that start of it. An event leaves the machine as it was; else the window is handed on while it is
+/// one of the machine's, and is without starts where CS has changed.
 /// Source: 80386 Programmer's Reference Manual, ch. 9, "Exception 6" and "Exception 13", and ch. 17; window and memo are own.
 #[inline(always)]
 pub fn step_in_window(
     m: &mut Machine,
     memo: &mut Memo,
-    window: &CodeWindow,
+    window: &mut CodeWindow,
     from: u32,
 ) -> Result<(), Raised>
-    requires window { IsWindow m.old window.now }
-    requires start { from < window.now.starts }
-    requires here { window.now.first + from ≡ m.old.world.regs.eip }
+    requires window { IsWindow m.old window.old }
+    requires start { from < window.old.starts }
+    requires here { window.old.first + from ≡ m.old.world.regs.eip }
     ensures step { Follows m.old m.new result (client_step m.old) }
-    ensures window { OnOk result (m.new.world.regs.cs ≡ window.now.cs → IsWindow m.new window.now) }
+    ensures kept { IsHandedOn window.old window.new }
+    ensures window { OnOk result (0 < window.new.starts → IsWindow m.new window.new) }
 {
     m.holds_world();
     let low = m.words_in(window, from).low;
     match memo.known(window.place + from, low) {
-        Some(entry) => execute(m, &entry.insn, entry.len, entry.shape),
-        None => learn_and_step(m, memo, window, from),
+        Some(entry) => execute(m, window, &entry.insn, entry.len, entry.shape),
+        None => {
+            let (handed_on, answer) = learn_and_step(m, memo, *window, from);
+            *window = handed_on;
+            answer
+        }
     }
 }

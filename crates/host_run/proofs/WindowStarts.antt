@@ -5,11 +5,11 @@ use Rattle.host_memory.specs.View.{MachineView}
 use Rattle.host_run.specs.Windows.{HasWindow, IsOutside, IsStart, IsTrapFree}
 
 pub no_starts : (v : MachineView) (w : CodeWindow) → w.starts ≡ 0 → HasWindow v w
-no_starts v w none some same = absurd (omega arith)
+no_starts v w none some = absurd (omega arith)
 
 pub outside_rom : (v : MachineView) (w : CodeWindow) → (0 < w.starts → IsWindow v w) → IsOutside w.linear → HasWindow v w
-outside_rom v w is outside some same = (is some, outside)
+outside_rom v w is outside some = (is some, outside)
 
-pub start_found : (v : MachineView) (w : CodeWindow) (from : ℕ) → HasWindow v w →
-    (w.cs ≡ v.world.regs.cs) × (w.first + from ≡ v.world.regs.eip) × (from < w.starts) → IsTrapFree v w × IsStart v.world w from
-start_found v w from has place = (has (omega (arith, place.2)) place.0, (place.1, place.2))
+pub start_found : (v : MachineView) (w : CodeWindow) (from : ℕ) → HasWindow v w → (w.first + from ≡ v.world.regs.eip) × (from < w.starts) →
+    IsTrapFree v w × IsStart v.world w from
+start_found v w from has place = (has (omega (arith, place.1)), place)

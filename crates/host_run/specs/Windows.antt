@@ -12,9 +12,9 @@ IsOutside at = (at < ROM_START) ⊎ (DOS_SIZE ≤ at)
 abbrev pub IsTrapFree : MachineView → CodeWindow → Type 0
 IsTrapFree v w = IsWindow v w × IsOutside w.linear
 
--- it is, if it has starts and CS holds what it held
+-- it is, if it has starts
 abbrev pub HasWindow : MachineView → CodeWindow → Type 0
-HasWindow v w = 0 < w.starts → w.cs ≡ v.world.regs.cs → IsTrapFree v w
+HasWindow v w = 0 < w.starts → IsTrapFree v w
 
 -- CS:EIP is that start of it
 abbrev pub IsStart : World → CodeWindow → ℕ → Type 0

@@ -17,21 +17,21 @@ use interrupts::{
     a_real_frame_is_popped_where_it_fits, can_pop_iret, every_answer_depends_on_the_world_alone,
 };
 
-/// The client's next instruction, or its event, which leaves the machine. A window of code at whose start it lies stays one while CS holds
-/// what it held.
+/// The client's next instruction, or its event, which leaves the machine. A window of code at whose start it lies is handed on while it is
+/// one.
 #[inline(always)]
 pub(crate) fn step_machine(
     m: &mut Machine,
     memo: &mut Memo,
-    window: &CodeWindow,
+    window: &mut CodeWindow,
     from: Option<u32>,
 ) -> Result<(), Raised>
-    requires { IsFound m.old window.now from }
+    requires { IsFound m.old window.old from }
     ensures machine { MatchResult result (λ _. client_step m.old ≡ Ok m.new)
         (λ e. (client_step m.old ≡ Err e) × (m.new ≡ m.old)) }
     ensures world { MatchResult result (λ _. world_step m.old.world ≡ Ok m.new.world)
         (λ e. (world_step m.old.world ≡ Err e) × (m.new ≡ m.old)) }
-    ensures window { OnOk result (HasWindow m.new window.now) }
+    ensures window { OnOk result (HasWindow m.new window.new) }
 {
     every_answer_depends_on_the_world_alone();
     match from {

@@ -1,4 +1,5 @@
-// Turns in a window of code. While CS:EIP stays in one page outside read-only memory, a turn asks neither where its code is nor for a trap.
+// Turns in a window of code. While CS stays, and EIP stays in one page outside read-only memory, a turn asks neither where its code is nor
+// for a trap.
 ghost use Rattle.std.specs.Prelude.{◌≡◌, ◌+◌, ◌<◌, IfSome, IsTrue, None, Ok, OnOk, Some};
 ghost use Rattle.client_world.specs.declared.limits.TheConstants.{MAX_STEPS};
 ghost use Rattle.host_run.specs.{declared.traps.Trap.TheVariants.{NoTrap}, Footprint.{ChangesOnly, client_footprint, client_turn}};
@@ -13,7 +14,7 @@ use crate::traps::{Trap, current_trap};
 use client_world::memory_map::{DOS_SIZE, ROM_START};
 use cpu_step::find_window;
 use fault_service::a_machine_changes_only_what_is_written;
-use guest_space::CodeWindow;
+use guest_space::{CodeWindow, Machine};
 
 // Whether an address lies outside read-only memory.
 fn is_outside(at: u32) -> bool
@@ -22,8 +23,22 @@ fn is_outside(at: u32) -> bool
     at < ROM_START || DOS_SIZE <= at
 }
 
+// The window of the client's page, which is noted; without starts where none has CS:EIP, and where the page is read-only memory, where the
+// traps are.
+#[inline(always)]
+fn trap_free_window(m: &mut Machine) -> CodeWindow
+    ensures kept { m.new ≡ m.old }
+    ensures window { HasWindow m.new result }
+{
+    let window = find_window(m);
+    if !is_outside(window.linear) {
+        return CodeWindow::NONE;
+    }
+    window
+}
+
 impl Host {
-    /// Which start of a window that turns hand on CS:EIP is; `None` says nothing.
+    /// Which start of a window that turns hand on EIP is; `None` says nothing.
     #[inline(always)]
     #[tactic(auto, using(crate::proofs::WindowStarts::start_found))]
     pub fn start_in(&self, window: &CodeWindow) -> Option<u32>
@@ -31,35 +46,29 @@ impl Host {
         ensures { IfSome result (λ from.
             IsTrapFree (machine_view self.now) window.now × IsStart self.now.world.machine window.now from) }
     {
-        let regs = self.machine.registers();
-        let from = regs.eip.wrapping_sub(window.first);
-        if from < window.starts && window.cs == regs.cs {
+        let from = self.machine.registers().eip.wrapping_sub(window.first);
+        if from < window.starts {
             Some(from)
         } else {
             None
         }
     }
 
-    // Puts the window of the client's page in the place of another, and says which start of it CS:EIP is; `None` where no window has it, or
-    // its page is read-only memory, where the traps are.
+    // Puts the window of the client's page in the place of another, and says which start of it EIP is; `None` where it has no starts.
     #[cold]
     #[inline(never)]
-    #[tactic(auto, using(crate::proofs::WindowStarts::no_starts, crate::proofs::WindowStarts::outside_rom))]
     fn move_window(&mut self, window: &mut CodeWindow) -> Option<u32>
         ensures host { self.new ≡ self.old }
         ensures window { HasWindow (machine_view self.new) window.new }
         ensures found { IfSome result (λ from.
             IsTrapFree (machine_view self.new) window.new × IsStart self.new.world.machine window.new from) }
     {
-        *window = find_window(&mut self.machine);
-        if !is_outside(window.linear) {
-            *window = CodeWindow::NONE;
-        }
+        *window = trap_free_window(&mut self.machine);
         self.start_in(window)
     }
 
-    /// Which start of the window CS:EIP is: of the window that is there, or else of that of its page, which takes its place. `None` where
-    /// no window shows it, or a trap may be there: it says nothing.
+    /// Which start of the window EIP is: of the window that is there, or else of that of the client's page, which takes its place. `None`
+    /// where no window shows it, or a trap may be there: it says nothing.
     #[inline(always)]
     pub fn find_start(&mut self, window: &mut CodeWindow) -> Option<u32>
         requires { HasWindow (machine_view self.old) window.old }
