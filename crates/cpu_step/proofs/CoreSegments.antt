@@ -1,4 +1,4 @@
--- No row of exec_core changes a segment register.
+-- No row of exec_core changes CS, and what it leaves in the other segment registers are words.
 use Rattle.std.proofs.Common.{ℕ, Bool, true, Option, None, Some}
 use Rattle.client_world.specs.{declared.registers.Flags.{Flags}, declared.registers.Regs.{Regs}, World.{World}}
 use Rattle.cpu_values.specs.Word.{cut}

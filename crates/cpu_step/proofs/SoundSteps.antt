@@ -1,5 +1,5 @@
 -- Writes leave a sound world sound, and so do a plan whose segment registers hold words and a step of the client's; a row of exec_core
--- keeps CS, and a window of code outlives a step that keeps it.
+-- keeps CS, and a window of code outlives a step that keeps CS.
 use Rattle.std.proofs.Common.{◌≡◌, ℕ, zero, suc, ◌/◌, ◌%◌, ◌<◌, List, [], ◌∷◌, length, slice_index, refl, sym, subst, arith, nat_eq}
 use Rattle.std.proofs.Common.{if◌then◌else◌, Bool, true, false, Option, None, Some, Result, Ok, Err, ◌∙◌, ap}
 use Rattle.client_world.specs.{declared.faults.Event.{Event}, declared.faults.Event.TheVariants.{Fault as fault}}
@@ -156,9 +156,8 @@ kept_by v u act w (Err e) keeps own carried = tt
 pub core_keeps_cs : (v u : MachineView) (i : Insn) (len : ℕ) (w : CodeWindow) (r : Result (Unit {0}) Event) →
     IsInSegment v w → IsSound v.world → CarriesOut v u r (core_row i.op v.world i len) → OnOk r (IsInSegment u w)
 core_keeps_cs v u i len w r own s carried =
-    let words = words_of v.world.regs s.segments in
-    let keeps : HoldWith (λ cs. cs ≡ v.world.regs.cs) v.world.regs = record { es_fits = words.es_fits; cs_fits = refl;
-      ss_fits = words.ss_fits; ds_fits = words.ds_fits; fs_fits = words.fs_fits; gs_fits = words.gs_fits } in
+    let segments = s.segments in
+    let keeps : HoldWith (λ cs. cs ≡ v.world.regs.cs) v.world.regs = search (segments, refl) in
     kept_by v u (core_row i.op v.world i len) w r (core_leaves i.op v.world i len keeps) own carried
 
 -- ---- windows of code

@@ -35,8 +35,8 @@ pub fn move_past(m: &mut Machine, len: u8)
     m.set_eip(m.registers().eip.wrapping_add(u32::from(len)));
 }
 
-// Runs an instruction of a shape, whose EIP is already after it, by the crate that has it. Only one of exec_flow can change CS, which gives
-// the window up.
+// Runs an instruction of a shape, whose EIP is already after it, by the crate that has it. Only an instruction of exec_flow can change CS;
+// where it did, the window is given up.
 #[inline(always)]
 #[tactic(auto, unfolding(crate::specs::Step::client_row), using(crate::proofs::CoreOrFlow::flow_where_not_core, //
 crate::proofs::SoundSteps::core_keeps_cs))]
@@ -51,7 +51,7 @@ fn run(
     requires shape { HasShape shape insn.now }
     requires segment { IsInSegment m.old window.old }
     ensures carried { CarriesOut m.old m.new result (client_row m.old.world insn.now len) }
-    ensures window { IsHandedOn window.old window.new }
+    ensures handed_on { IsHandedOn window.old window.new }
     ensures segment { OnOk result (IsInSegment m.new window.new) }
 {
     m.soundness();
@@ -90,7 +90,7 @@ fn execute(
     requires shape { HasShape shape insn.now }
     requires segment { IsInSegment m.old window.old }
     ensures executed { Follows m.old m.new result (after_instruction m.old insn.now len) }
-    ensures window { IsHandedOn window.old window.new }
+    ensures handed_on { IsHandedOn window.old window.new }
     ensures segment { OnOk result (IsInSegment m.new window.new) }
 {
     let start = m.registers().eip;
@@ -131,6 +131,7 @@ pub fn step_raised(m: &mut Machine) -> Result<(), Raised>
     match decode(&code, has_big_code(m)) {
         Decoded::Whole(insn, len) => {
             every_instruction_is_well_formed();
+            // A window without starts: there is none to hand on.
             let mut window = CodeWindow::NONE;
             execute(m, &mut window, &insn, len, insn.shape())
         }
@@ -163,8 +164,9 @@ pub fn find_window(m: &mut Machine) -> CodeWindow
     m.code_window()
 }
 
-// Makes the instruction at that start of a window, where the memo lacks it or it has more than 8 bytes, and gives the window that is handed
-// on. With the window, its answer comes back in memory: two answers in registers, one from either way, would be joined and asked once more.
+// Makes the instruction at that start of a window, where the memo lacks it or it has more than 8 bytes. It returns the window beside the
+// result, so that both come back in memory: results in registers from here and from `execute` would be merged by the compiler and tested
+// once more.
 #[cold]
 #[inline(never)]
 fn learn_and_step(
@@ -177,7 +179,7 @@ fn learn_and_step(
     requires start { from < window.starts }
     requires here { window.first + from ≡ m.old.world.regs.eip }
     ensures step { Follows m.old m.new result.1 (client_step m.old) }
-    ensures window { IsHandedOn window result.0 }
+    ensures handed_on { IsHandedOn window result.0 }
     ensures segment { OnOk result.1 (IsInSegment m.new result.0) }
 {
     let words = m.words_in(&window, from);
@@ -192,8 +194,8 @@ fn learn_and_step(
 }
 
 /// Makes the client's next instruction as `step_raised` does, with a memo of the instructions that were decoded before. The instruction is
-/// known to lie in a window of code, at that start of it. An event leaves the machine as it was; else the window is handed on while it is
-/// one of the machine's, and is without starts where CS has changed.
+/// known to lie in a window of code, at that start of it. An event leaves the machine as it was. Otherwise the window is unchanged and
+/// still one of the machine's, or it has no starts; where CS has changed it has none.
 /// Source: 80386 Programmer's Reference Manual, ch. 9, "Exception 6" and "Exception 13", and ch. 17; window and memo are own.
 #[inline(always)]
 pub fn step_in_window(
@@ -206,7 +208,7 @@ pub fn step_in_window(
     requires start { from < window.old.starts }
     requires here { window.old.first + from ≡ m.old.world.regs.eip }
     ensures step { Follows m.old m.new result (client_step m.old) }
-    ensures kept { IsHandedOn window.old window.new }
+    ensures handed_on { IsHandedOn window.old window.new }
     ensures window { OnOk result (0 < window.new.starts → IsWindow m.new window.new) }
 {
     m.holds_world();

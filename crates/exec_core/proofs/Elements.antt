@@ -13,7 +13,7 @@ pub counted : (addr32 : Bool) (ecx : ℕ) → ecx < 2 ^ 32 → nat_eq (cut_addre
 counted true ecx fits some = (grind arith, grind arith)
 counted false ecx fits some = (grind arith, grind arith)
 
--- the count may stand between the two registers
+-- counting between the two moves gives the same registers
 pub counted_between : (v0 v1 v2 v3 : MachineView) (i : Insn) (len : ℕ) (goes_on : Bool) →
     v1 ≡ with_registers (with_source_next v0.world i v0.world.regs) v0 →
     v2 ≡ with_registers (repeated v1.world i len goes_on v1.world.regs) v1 →

@@ -12,7 +12,7 @@ use insn_plan::{InsnRow, Look, Quick, Raised, register, run_row, shown_in_memory
 
 /// A row that has a body for a first operand of W bits in a register and one in memory, where the second gives a number.
 pub(crate) trait ShapedRow<const W: u8>: InsnRow {
-    /// At how many bits a second operand in memory is read.
+    /// The width, in bits, at which a second operand in memory is read.
     const SECOND_WIDTH: u8;
 
     ghost SECOND_WIDTH: { ℕ };
@@ -78,7 +78,7 @@ fn second_number(m: &Machine, i: &Insn, shape: usize, known: u8, width: u8) -> u
 
 // The row on the register of a shape, where the second operand gives b.
 #[inline(always)]
-fn run_on<const W: u8, R: ShapedRow<W>>(
+fn run_on_register_with<const W: u8, R: ShapedRow<W>>(
     row: R,
     m: &mut Machine,
     i: &Insn,
@@ -115,7 +115,7 @@ fn run_on_register<const W: u8, R: ShapedRow<W>>(
     ensures { CarriesOut m.old m.new result (R.plan row m.old.world i.now) }
 {
     let b = second_number(m, i, shape, known, W);
-    run_on(row, m, i, shape, known % 8, b)
+    run_on_register_with(row, m, i, shape, known % 8, b)
 }
 
 // The row on the register of a shape whose second operand is in memory. It is read before the jump to the register.
@@ -137,12 +137,12 @@ fn run_from_memory<const W: u8, R: ShapedRow<W>>(
         return run_row(row, m, i);
     };
     let number = (shape % 8) as u8;
-    at_register!(number, n => run_on(row, m, i, shape, n, b))
+    at_register!(number, n => run_on_register_with(row, m, i, shape, n, b))
 }
 
 // The row on memory, where the second operand gives b.
 #[inline(never)]
-fn run_on_memory<const W: u8, R: ShapedRow<W>>(
+fn run_on_memory_with<const W: u8, R: ShapedRow<W>>(
     row: R,
     m: &mut Machine,
     i: &Insn,
@@ -164,7 +164,7 @@ fn run_on_memory<const W: u8, R: ShapedRow<W>>(
 
 // The row of a shape whose first operand is in memory.
 #[inline(always)]
-fn run_in_memory<const W: u8, R: ShapedRow<W>>(
+fn run_on_memory<const W: u8, R: ShapedRow<W>>(
     row: R,
     m: &mut Machine,
     i: &Insn,
@@ -181,10 +181,11 @@ fn run_in_memory<const W: u8, R: ShapedRow<W>>(
     ensures { CarriesOut m.old m.new result (R.plan row m.old.world i.now) }
 {
     let b = second_number(m, i, shape, known, W);
-    run_on_memory(row, m, i, b)
+    run_on_memory_with(row, m, i, b)
 }
 
-// The row of an instruction of which an operand is in memory. It is out of line, so that a row on registers makes no call.
+// The row of an instruction whose shape has an operand in memory; any shape without an arm here goes to `run_row`. It is out of line, so
+// that a row on registers makes no call.
 #[inline(never)]
 fn run_with_memory<R: ShapedRow<8> + ShapedRow<16> + ShapedRow<32>>(
     row: R,
@@ -201,9 +202,9 @@ fn run_with_memory<R: ShapedRow<8> + ShapedRow<16> + ShapedRow<32>>(
         72 73 74 75 76 77 78 79 => run_from_memory::<8, R>(row, m, i, shape),
         80 81 82 83 84 85 86 87 => run_from_memory::<16, R>(row, m, i, shape),
         88 89 90 91 92 93 94 95 => run_from_memory::<32, R>(row, m, i, shape),
-        96 97 98 99 100 101 102 103 120 123 => run_in_memory::<8, R>(row, m, i, shape, known),
-        104 105 106 107 108 109 110 111 121 124 => run_in_memory::<16, R>(row, m, i, shape, known),
-        112 113 114 115 116 117 118 119 122 125 => run_in_memory::<32, R>(row, m, i, shape, known),
+        96 97 98 99 100 101 102 103 120 123 => run_on_memory::<8, R>(row, m, i, shape, known),
+        104 105 106 107 108 109 110 111 121 124 => run_on_memory::<16, R>(row, m, i, shape, known),
+        112 113 114 115 116 117 118 119 122 125 => run_on_memory::<32, R>(row, m, i, shape, known),
         _ => run_row(row, m, i)
     )
 }
@@ -230,7 +231,8 @@ pub(crate) fn run_shaped<R: ShapedRow<8> + ShapedRow<16> + ShapedRow<32>>(
     )
 }
 
-/// The same for a shift by an immediate. It has no arms for the other shapes, so that the compiler writes the shift out in each.
+/// Carries out a shift as `run_row` does. Of the shapes on a register only those with an immediate have arms, so that the compiler writes
+/// the shift out in each. Source: own.
 #[inline(never)]
 pub(crate) fn run_shift<R: ShapedRow<8> + ShapedRow<16> + ShapedRow<32>>(
     row: R,

@@ -142,10 +142,11 @@ fn count_element(m: &mut Machine, i: &Insn, addr32: bool, len: u8, goes_on: bool
     }
 }
 
-// Moves both registers to the next element, and counts it. The count stands between them, so that each is changed in memory by itself.
+// Moves (E)SI and (E)DI past the element, and counts it. The count comes between the two, since otherwise the compiler changes both as one
+// vector, in more instructions.
 #[inline(always)]
 #[tactic(auto, using(crate::proofs::Elements::counted_between))]
-fn move_both(m: &mut Machine, i: &Insn, width: u8, addr32: bool, len: u8, goes_on: bool)
+fn pass_element(m: &mut Machine, i: &Insn, width: u8, addr32: bool, len: u8, goes_on: bool)
     requires width { width ≡ i.now.width }
     requires size { addr32 ≡ i.now.addr32 }
     requires some { is_over m.old.world i.now ≡ false }
@@ -187,7 +188,7 @@ fn movs_at<const W: u8, const A: bool, L: Look>(
     let v = L::read(m, i.seg, from, W)?;
     let to = destination_offset(m, A);
     L::write(m, SegReg::Es, to, W, v)?;
-    move_both(m, i, W, A, len, true);
+    pass_element(m, i, W, A, len, true);
     Ok(())
 }
 
@@ -228,7 +229,7 @@ fn cmps_at<const W: u8, const A: bool, L: Look>(
     let b = L::read(m, SegReg::Es, second, W)?;
     let flags = difference_flags(W, a, b, flags_of(m));
     m.set_flags(flags);
-    move_both(m, i, W, A, len, goes_on_while(i.rep, flags));
+    pass_element(m, i, W, A, len, goes_on_while(i.rep, flags));
     Ok(())
 }
 

@@ -12,11 +12,11 @@ IsOutside at = (at < ROM_START) ⊎ (DOS_SIZE ≤ at)
 abbrev pub IsTrapFree : MachineView → CodeWindow → Type 0
 IsTrapFree v w = IsWindow v w × IsOutside w.linear
 
--- it is, if it has starts
+-- the window has no starts, or it is one of the machine's code and has no trap
 abbrev pub HasWindow : MachineView → CodeWindow → Type 0
 HasWindow v w = 0 < w.starts → IsTrapFree v w
 
--- CS:EIP is that start of it
+-- EIP is that start of the window
 abbrev pub IsStart : World → CodeWindow → ℕ → Type 0
 IsStart machine w from = (w.first + from ≡ machine.regs.eip) × (from < w.starts)
 

@@ -17,8 +17,8 @@ use interrupts::{
     a_real_frame_is_popped_where_it_fits, can_pop_iret, every_answer_depends_on_the_world_alone,
 };
 
-/// The client's next instruction, or its event, which leaves the machine. A window of code at whose start it lies is handed on while it is
-/// one.
+/// The client's next instruction, or its event, which leaves the machine. Where there is no event, the window that is left is one of the
+/// machine's and has no trap, or it has no starts.
 #[inline(always)]
 pub(crate) fn step_machine(
     m: &mut Machine,

@@ -1,5 +1,5 @@
-// Turns in a window of code. While CS stays, and EIP stays in one page outside read-only memory, a turn asks neither where its code is nor
-// for a trap.
+// Turns in a window of code, a part of one page outside read-only memory. While CS is unchanged and EIP stays in the window, a turn asks
+// neither where its code is nor for a trap.
 ghost use Rattle.std.specs.Prelude.{◌≡◌, ◌+◌, ◌<◌, IfSome, IsTrue, None, Ok, OnOk, Some};
 ghost use Rattle.client_world.specs.declared.limits.TheConstants.{MAX_STEPS};
 ghost use Rattle.host_run.specs.{declared.traps.Trap.TheVariants.{NoTrap}, Footprint.{ChangesOnly, client_footprint, client_turn}};
@@ -23,8 +23,7 @@ fn is_outside(at: u32) -> bool
     at < ROM_START || DOS_SIZE <= at
 }
 
-// The window of the client's page, which is noted; without starts where none has CS:EIP, and where the page is read-only memory, where the
-// traps are.
+// The window of code at CS:EIP, as `find_window` gives it; without starts where its page is read-only memory, where the traps are.
 #[inline(always)]
 fn trap_free_window(m: &mut Machine) -> CodeWindow
     ensures kept { m.new ≡ m.old }
@@ -38,7 +37,7 @@ fn trap_free_window(m: &mut Machine) -> CodeWindow
 }
 
 impl Host {
-    /// Which start of a window that turns hand on EIP is; `None` says nothing.
+    /// Which start of the window EIP is at; `None` says nothing.
     #[inline(always)]
     #[tactic(auto, using(crate::proofs::WindowStarts::start_found))]
     pub fn start_in(&self, window: &CodeWindow) -> Option<u32>
@@ -54,7 +53,7 @@ impl Host {
         }
     }
 
-    // Puts the window of the client's page in the place of another, and says which start of it EIP is; `None` where it has no starts.
+    // Puts the window of code at CS:EIP in place of the given one, and says which of its starts EIP is at; `None` says nothing.
     #[cold]
     #[inline(never)]
     fn move_window(&mut self, window: &mut CodeWindow) -> Option<u32>
@@ -67,8 +66,8 @@ impl Host {
         self.start_in(window)
     }
 
-    /// Which start of the window EIP is: of the window that is there, or else of that of the client's page, which takes its place. `None`
-    /// where no window shows it, or a trap may be there: it says nothing.
+    /// Which start of a window EIP is at: of the given one, or else of the one at CS:EIP, which takes its place. `None` says nothing: no
+    /// window shows the code, or a trap may be there.
     #[inline(always)]
     pub fn find_start(&mut self, window: &mut CodeWindow) -> Option<u32>
         requires { HasWindow (machine_view self.old) window.old }

@@ -1,4 +1,4 @@
-use Rattle.exec_core.proofs.{OnRegisters.{on_shape}, shaped.run_on.Goals.{on_register-requires-clause-operands as goal}}
+use Rattle.exec_core.proofs.{OnRegisters.{on_shape}, shaped.run_on_register_with.Goals.{on_register-requires-clause-operands as goal}}
 
 pub on_register-requires-clause-operands : goal
 on_register-requires-clause-operands g c =
