@@ -10,8 +10,7 @@ use Rattle.insn_forms.specs.{declared.insn.Operand.{Operand}, declared.insn.Oper
 use Rattle.insn_plan.specs.{Act.{Act, End, Read, Ending, Done, Raise, Interrupt, Pending, unless_fault, value_of}, Operands.{put_operand}}
 use Rattle.insn_plan.specs.{Plan.{plan_result}, Registers.{with_register}, Stack.{with_pushed_number}}
 
--- ---- six words, of which P holds of that in CS: the other registers have no part in it, so registers that differ in those alone have one
--- proof
+-- ---- six words, and P of that in CS: registers that differ in the others alone have one proof
 
 pub record AreWords (P : ℕ → Type 0) (es cs ss ds fs gs : ℕ) : Type 0 where
   pub es_fits : es < 0x10000

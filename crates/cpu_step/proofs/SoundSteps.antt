@@ -148,17 +148,14 @@ cs_carried v u act (Ok p) plan keeps e =
     cs_unless v u p (first_write_fault v.world p.writes) e ∙ (planned_words v.world act p keeps plan).cs_fits
 cs_carried v u act (Err event) plan keeps e = absurd cc
 
-kept_by : (v u : MachineView) (act : Act) (w : CodeWindow) (r : Result (Unit {0}) Event) → LeavesWith (λ cs. cs ≡ v.world.regs.cs) act →
-    IsInSegment v w → CarriesOut v u r act → OnOk r (IsInSegment u w)
-kept_by v u act w (Ok _) keeps own carried = λ some. own some ∙ sym (cs_carried v u act (plan_result v.world act) refl keeps carried)
-kept_by v u act w (Err e) keeps own carried = tt
-
 pub core_keeps_cs : (v u : MachineView) (i : Insn) (len : ℕ) (w : CodeWindow) (r : Result (Unit {0}) Event) →
     IsInSegment v w → IsSound v.world → CarriesOut v u r (core_row i.op v.world i len) → OnOk r (IsInSegment u w)
-core_keeps_cs v u i len w r own s carried =
+core_keeps_cs v u i len w (Ok _) own s carried =
     let segments = s.segments in
+    let act = core_row i.op v.world i len in
     let keeps : HoldWith (λ cs. cs ≡ v.world.regs.cs) v.world.regs = search (segments, refl) in
-    kept_by v u (core_row i.op v.world i len) w r (core_leaves i.op v.world i len keeps) own carried
+    λ some. own some ∙ sym (cs_carried v u act (plan_result v.world act) refl (core_leaves i.op v.world i len keeps) carried)
+core_keeps_cs v u i len w (Err e) own s carried = tt
 
 -- ---- windows of code
 
@@ -209,14 +206,10 @@ window_step : (v u : MachineView) (w : CodeWindow) → HoldsItsWorld v → IsWin
 unfolding client_step
 window_step v u w held window e same = window_step_of v u (decoded (has_big_code v.world) (code v.world)) w held window e same
 
-window_handed_on : (v u : MachineView) (old new : CodeWindow) → HoldsItsWorld v → IsWindow v old → IsHandedOn old new → IsInSegment u new →
-    client_step v ≡ Ok u → 0 < new.starts → IsWindow u new
-window_handed_on v u old new held window same own step some =
+pub window_after : (v u : MachineView) (old new : CodeWindow) (r : Result (Unit {0}) Event) → HoldsItsWorld v → IsWindow v old →
+    IsHandedOn old new → OnOk r (IsInSegment u new) → Follows v u r (client_step v) → OnOk r (0 < new.starts → IsWindow u new)
+window_after v u old new (Ok _) held window same own step = λ some.
     let is = same some in
     let kept : u.world.regs.cs ≡ v.world.regs.cs = sym (own some) ∙ ap (λ (w : CodeWindow). w.cs) is ∙ window.cs in
     rw is (window_step v u old held window step kept)
-
-pub window_after : (v u : MachineView) (old new : CodeWindow) (r : Result (Unit {0}) Event) → HoldsItsWorld v → IsWindow v old →
-    IsHandedOn old new → OnOk r (IsInSegment u new) → Follows v u r (client_step v) → OnOk r (0 < new.starts → IsWindow u new)
-window_after v u old new (Ok _) held window same own step = window_handed_on v u old new held window same own step
 window_after v u old new (Err e) held window same own step = tt

@@ -3,8 +3,8 @@ ghost use Rattle.std.specs.Prelude.{◌≡◌, ◌+◌, ◌<◌, OnOk};
 ghost use Rattle.guest_space.specs.{Registers.{with_registers}, Windows.{IsWindow}};
 ghost use Rattle.insn_forms.specs.{Kinds.{IsWellFormed}, Shapes.{HasShape}};
 ghost use Rattle.insn_plan.specs.Plan.{CarriesOut, Follows};
-ghost use Rattle.cpu_step.specs.{Windows.{IsHandedOn, IsInSegment}, Step.{view_with_next_eip, client_row, client_step, after_instruction}};
-ghost use Rattle.cpu_step.specs.Step.{has_big_code, incomplete_fault};
+ghost use Rattle.cpu_step.specs.{Windows.{IsHandedOn, IsInSegment, learned_answer}, Step.{view_with_next_eip, client_row, client_step}};
+ghost use Rattle.cpu_step.specs.Step.{after_instruction, has_big_code, incomplete_fault};
 
 use arrayvec::ArrayVec;
 use client_world::faults::{GENERAL_PROTECTION, INVALID_OPCODE};
@@ -131,7 +131,6 @@ pub fn step_raised(m: &mut Machine) -> Result<(), Raised>
     match decode(&code, has_big_code(m)) {
         Decoded::Whole(insn, len) => {
             every_instruction_is_well_formed();
-            // A window without starts: there is none to hand on.
             let mut window = CodeWindow::NONE;
             execute(m, &mut window, &insn, len, insn.shape())
         }
@@ -164,32 +163,52 @@ pub fn find_window(m: &mut Machine) -> CodeWindow
     m.code_window()
 }
 
-// Makes the instruction at that start of a window, where the memo lacks it or it has more than 8 bytes. It returns the window beside the
-// result, so that both come back in memory: results in registers from here and from `execute` would be merged by the compiler and tested
-// once more.
-#[cold]
-#[inline(never)]
+// Makes the instruction at that start of a window, where the memo lacks it or it has more than 8 bytes.
+#[inline(always)]
 fn learn_and_step(
     m: &mut Machine,
     memo: &mut Memo,
-    window: CodeWindow,
+    window: &mut CodeWindow,
     from: u32,
-) -> (CodeWindow, Result<(), Raised>)
-    requires window { IsWindow m.old window }
-    requires start { from < window.starts }
-    requires here { window.first + from ≡ m.old.world.regs.eip }
-    ensures step { Follows m.old m.new result.1 (client_step m.old) }
-    ensures handed_on { IsHandedOn window result.0 }
-    ensures segment { OnOk result.1 (IsInSegment m.new result.0) }
+) -> Result<(), Raised>
+    requires window { IsWindow m.old window.old }
+    requires start { from < window.old.starts }
+    requires here { window.old.first + from ≡ m.old.world.regs.eip }
+    ensures step { Follows m.old m.new result (client_step m.old) }
+    ensures handed_on { IsHandedOn window.old window.new }
+    ensures segment { OnOk result (IsInSegment m.new window.new) }
 {
-    let words = m.words_in(&window, from);
+    let words = m.words_in(window, from);
     match memo.learn(window.place + from, words) {
-        Some(entry) => {
-            let mut handed_on = window;
-            let answer = execute(m, &mut handed_on, &entry.insn, entry.len, entry.shape);
-            (handed_on, answer)
+        Some(entry) => execute(m, window, &entry.insn, entry.len, entry.shape),
+        None => {
+            *window = CodeWindow::NONE;
+            step_raised(m)
         }
-        None => (CodeWindow::NONE, step_raised(m)),
+    }
+}
+
+// What comes of an instruction that the memo lacks. The event is the first variant, and in the `Result` of `execute` the second: where both
+// had one order, the compiler would merge the two and test what comes of it twice.
+enum Learned {
+    Event(Raised),
+    Done,
+}
+
+// The same, out of line.
+#[cold]
+#[inline(never)]
+fn step_of_unknown(m: &mut Machine, memo: &mut Memo, window: &mut CodeWindow, from: u32) -> Learned
+    requires window { IsWindow m.old window.old }
+    requires start { from < window.old.starts }
+    requires here { window.old.first + from ≡ m.old.world.regs.eip }
+    ensures step { Follows m.old m.new (learned_answer result) (client_step m.old) }
+    ensures handed_on { IsHandedOn window.old window.new }
+    ensures segment { OnOk (learned_answer result) (IsInSegment m.new window.new) }
+{
+    match learn_and_step(m, memo, window, from) {
+        Ok(()) => Learned::Done,
+        Err(raised) => Learned::Event(raised),
     }
 }
 
@@ -215,10 +234,9 @@ pub fn step_in_window(
     let low = m.words_in(window, from).low;
     match memo.known(window.place + from, low) {
         Some(entry) => execute(m, window, &entry.insn, entry.len, entry.shape),
-        None => {
-            let (handed_on, answer) = learn_and_step(m, memo, *window, from);
-            *window = handed_on;
-            answer
-        }
+        None => match step_of_unknown(m, memo, window, from) {
+            Learned::Event(raised) => Err(raised),
+            Learned::Done => Ok(()),
+        },
     }
 }

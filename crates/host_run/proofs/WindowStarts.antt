@@ -1,14 +1,11 @@
--- Windows of code: which are the machine's, and their starts.
+-- Windows of code: their starts.
 use Rattle.std.proofs.Common.{◌≡◌, ℕ, ◌+◌, ◌<◌, arith}
-use Rattle.guest_space.specs.{declared.windows.CodeWindow.{CodeWindow}, Windows.{IsWindow}}
+use Rattle.guest_space.specs.declared.windows.CodeWindow.{CodeWindow}
 use Rattle.host_memory.specs.View.{MachineView}
-use Rattle.host_run.specs.Windows.{HasWindow, IsOutside, IsStart, IsTrapFree}
+use Rattle.host_run.specs.Windows.{HasWindow, IsStart, IsTrapFree}
 
 pub no_starts : (v : MachineView) (w : CodeWindow) → w.starts ≡ 0 → HasWindow v w
 no_starts v w none some = absurd (omega arith)
-
-pub outside_rom : (v : MachineView) (w : CodeWindow) → (0 < w.starts → IsWindow v w) → IsOutside w.linear → HasWindow v w
-outside_rom v w is outside some = (is some, outside)
 
 pub start_found : (v : MachineView) (w : CodeWindow) (from : ℕ) → HasWindow v w → (w.first + from ≡ v.world.regs.eip) × (from < w.starts) →
     IsTrapFree v w × IsStart v.world w from
