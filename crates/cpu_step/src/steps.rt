@@ -195,7 +195,7 @@ enum Learned {
     Done,
 }
 
-// The same, out of line.
+// `learn_and_step`, out of line.
 #[cold]
 #[inline(never)]
 fn step_of_unknown(m: &mut Machine, memo: &mut Memo, window: &mut CodeWindow, from: u32) -> Learned
