@@ -4,7 +4,10 @@
     mov ax, cs
     mov ds, ax
 %include "mode.inc"
-    mov word [rounds - code], 6
+%ifndef ROUNDS
+    %define ROUNDS 6
+%endif
+    mov word [rounds - code], ROUNDS
 outer:
     mov cx, 65535
 inner:

@@ -1,7 +1,10 @@
 ; Register arithmetic and loops: 20 times 65,535 rounds of seven instructions.   nasm -f bin -I ../clients/ registers.asm -o registers.exe
 %include "exe.inc"
 %include "mode.inc"
-    mov dx, 20
+%ifndef ROUNDS
+    %define ROUNDS 20
+%endif
+    mov dx, ROUNDS
 outer:
     mov cx, 65535
 inner:
