@@ -7,9 +7,9 @@ use Rattle.dpmi_calls.specs.{Runs.{every_of, world_by, world_of}, Turns.{before_
 use Rattle.dpmi_calls.specs.{declared.run.ClientRun.{ClientRun}, declared.start.Client.{Client}}
 use Rattle.dpmi_calls.proofs.Turns.{one_more, past}
 use Rattle.dpmi_cli.specs.{Answer.{Refuses, Starts, Verdict, answer_to}, declared.prepare.Reason.{Reason}}
-use Rattle.host_run.specs.{View.{machine_view}, Windows.{HasWindow}}
+use Rattle.host_run.specs.View.{machine_view}
 use Rattle.timer_run.specs.{Rounds.{TimedWorld, round_with_timer, timed, with_new_timer}, Timer.{TimerState}}
-use Rattle.watch_run.specs.Turn.{turn_with_watchpoints}
+use Rattle.watch_run.specs.Turn.{HasUnwatchedWindow, turn_with_watchpoints}
 
 host_by : (t : Option TimerState) (w : WatchWorld) → (world_by t w).watched.host ≡ w.host
 host_by None w = refl
@@ -28,7 +28,7 @@ run_next c n every before after timer was is =
 
 -- it is made: the run is after it, whatever its timer is
 stepped : (r new : ClientRun) → IsRun r → every_of new ≡ every_of r → new.client ≡ r.client → new.turns ≡ r.turns + 1 →
-    world_of new ≡ next_turn (every_of r) (world_of r) → HasWindow (machine_view new.host) new.window →
+    world_of new ≡ next_turn (every_of r) (world_of r) → HasUnwatchedWindow (machine_view new.host) new.watches new.window →
     new.host.world.steps ≤ r.host.world.steps + 1 → IsRun new
 stepped r new run every client turns is window steps = record {
   timer = every ∙ run.timer ∙ ap (λ (c : Client). timer_given c.timer) (sym client);
@@ -43,7 +43,7 @@ stepped r new run every client turns is window steps = record {
 pub stepped_plain : (r new : ClientRun) → IsRun r → r.timer ≡ None → new.timer ≡ None → new.client ≡ r.client → new.turns ≡ r.turns + 1 →
     record { host = new.host.world; watching = new.watches }
     ≡ turn_with_watchpoints (record { host = r.host.world; watching = r.watches }) →
-    HasWindow (machine_view new.host) new.window → new.host.world.steps ≤ r.host.world.steps + 1 → IsRun new
+    HasUnwatchedWindow (machine_view new.host) new.watches new.window → new.host.world.steps ≤ r.host.world.steps + 1 → IsRun new
 stepped_plain r new run none still client turns is window steps =
     let w : WatchWorld = record { host = r.host.world; watching = r.watches } in
     let after : WatchWorld = record { host = new.host.world; watching = new.watches } in
@@ -57,7 +57,7 @@ pub stepped_timed : (r new : ClientRun) (t u : TimerState) → IsRun r → r.tim
     new.client ≡ r.client → new.turns ≡ r.turns + 1 →
     timed u (record { host = new.host.world; watching = new.watches })
     ≡ round_with_timer t.every (timed t (record { host = r.host.world; watching = r.watches })) →
-    HasWindow (machine_view new.host) new.window → new.host.world.steps ≤ r.host.world.steps + 1 → IsRun new
+    HasUnwatchedWindow (machine_view new.host) new.watches new.window → new.host.world.steps ≤ r.host.world.steps + 1 → IsRun new
 stepped_timed r new t u run some still same client turns is window steps =
     let w : WatchWorld = record { host = r.host.world; watching = r.watches } in
     let after : WatchWorld = record { host = new.host.world; watching = new.watches } in

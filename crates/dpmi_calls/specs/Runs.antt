@@ -2,7 +2,8 @@
 use Rattle.std.specs.{Prelude.{◌≡◌, ◌≤◌, ℕ, None, Some}, declared.option.Option.{Option}}
 use Rattle.client_world.specs.WatchWorld.{WatchWorld}
 use Rattle.dpmi_calls.specs.{Clients.{given, timer_given}, Turns.{client_after}, declared.run.ClientRun.{ClientRun}}
-use Rattle.host_run.specs.{View.{machine_view}, Windows.{HasWindow}}
+use Rattle.host_run.specs.View.{machine_view}
+use Rattle.watch_run.specs.Turn.{HasUnwatchedWindow}
 use Rattle.timer_run.specs.{Rounds.{TimedWorld, timed, with_new_timer}, Timer.{TimerState}}
 
 -- after how many rounds the timer's interrupt becomes due, if there is a timer
@@ -25,5 +26,5 @@ world_of r = world_by r.timer (record { host = r.host.world; watching = r.watche
 pub record IsRun (r : ClientRun) : Type 0 where
   pub timer : every_of r ≡ timer_given r.client.timer
   pub world : world_of r ≡ client_after (given r.client) r.turns
-  pub window : HasWindow (machine_view r.host) r.window
+  pub window : HasUnwatchedWindow (machine_view r.host) r.watches r.window
   pub steps : r.host.world.steps ≤ r.turns

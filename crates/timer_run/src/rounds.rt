@@ -1,8 +1,9 @@
 // Rounds of a run with a timer, and runs.
 ghost use Rattle.std.specs.Prelude.{◌≡◌, ◌≤◌, ◌<◌, ◌+◌, None, Some};
 ghost use Rattle.client_world.specs.declared.limits.TheConstants.{GREATEST_TIMER, MAX_STEPS};
-ghost use Rattle.host_run.specs.{MakesTurn.{AnswersBy, turn_answer}, View.{machine_view}, Windows.{HasWindow}};
+ghost use Rattle.host_run.specs.{MakesTurn.{AnswersBy, turn_answer}, View.{machine_view}};
 ghost use Rattle.timer_run.specs.Rounds.{MakesRound, timed_run};
+ghost use Rattle.watch_run.specs.Turn.{HasUnwatchedWindow};
 
 use crate::timer::Timer;
 use client_world::Exit;
@@ -20,11 +21,11 @@ pub fn next_round(
 ) -> Result<(), Ended>
     requires no_exit { host.old.world.exit ≡ None }
     requires room { host.old.world.steps < MAX_STEPS }
-    requires window { HasWindow (machine_view host.old) window.old }
+    requires window { HasUnwatchedWindow (machine_view host.old) watches.old window.old }
     ensures round { MakesRound host.old host.new watches.old watches.new timer.old timer.new (turn_answer host.new.world.exit) }
     ensures answer { AnswersBy result host.new.world.exit }
     ensures every { timer.new.every ≡ timer.old.every }
-    ensures window { HasWindow (machine_view host.new) window.new }
+    ensures window { HasUnwatchedWindow (machine_view host.new) watches.new window.new }
 {
     match timer.begin_round(host) {
         Ok(true) => {

@@ -1,9 +1,9 @@
 -- Hits, one touch and one handle after another: those that there are, and those that are noted.
 use Rattle.std.proofs.Common.{◌≡◌, ℕ, suc, ◌+◌, ◌-◌, ◌*◌, ◌^◌, ◌<◌, ◌≤◌, Bool, true, false, List, [], ◌∷◌, None, Option, refl, ap, ◌∙◌}
 use Rattle.std.proofs.{Common.{drop, length, arith, zero, ◌++◌, Some, sym, append_assoc, take}, lemmas.List.{drop_all, length-drop}}
-use Rattle.std.proofs.{lemmas.List.{append-nil, drop-set-lt}, Math.Seq.{drop-cons, take-suc-set}, Math.Nat.{pow-suc, pow-le-pow_right}}
-use Rattle.std.proofs.Math.Bool.{and-false, or-false, or_assoc}
-use Rattle.std.specs.Prelude.{slice_index_or, cond, ◌||◌, slice_set, not}
+use Rattle.std.proofs.{lemmas.List.{append-nil, drop-set-lt, set-get_or}, Math.Seq.{drop-cons, take-suc-set}, Math.Nat.{pow-suc}}
+use Rattle.std.proofs.{Math.Nat.{pow-le-pow_right}, Math.Bool.{and-false, or-false, or_assoc}}
+use Rattle.std.specs.Prelude.{slice_index_or, cond, ◌||◌, slice_set, not, ◌&&◌}
 use Rattle.client_world.specs.{declared.watchpoints.Touch.{Touch}, declared.watchpoints.Watch.{Watch}}
 use Rattle.watch_run.specs.Hits.{hit_bits, slot_hit, watches_for, watches_one, watches_after_touches, has_first_hit, is_first_hit}
 use Rattle.watch_run.specs.Hits.{watch_after_touches}
@@ -154,6 +154,22 @@ step_due at touched slots k due v within =
     ap (λ (more : List (Option Watch)). (due || is_first_hit at touched x) || has_first_hit at touched more) (after_set slots k v)
     ∙ or_assoc due (is_first_hit at touched x) rest
     ∙ ap (λ (more : List (Option Watch)). due || has_first_hit at touched more) (sym (slot_from slots k within))
+
+-- a handle that isn't hit stays as it is
+slot_kept : (at : ℕ) (touched : List Touch) (slot : Option Watch) (due : Bool) → slot_hit at (Some touched) slot ≡ false →
+    (watch_after_touches at (Some touched) slot ≡ slot) × ((due || is_first_hit at (Some touched) slot) ≡ due)
+slot_kept at touched None due free = (refl, or-false due)
+slot_kept at touched (Some x) due free = (
+  ap (λ (c : Bool). Some (record x { hit = c })) (ap (λ (c : Bool). x.hit || c) free ∙ or-false x.hit),
+  ap (λ (c : Bool). due || (not x.hit && c)) free ∙ ap (λ (c : Bool). due || c) (and-false (not x.hit)) ∙ or-false due,
+)
+
+pub kept_hit : (at : ℕ) (touched : List Touch) (slots : List (Option Watch)) (k : ℕ) (due : Bool) →
+    let x = slice_index_or slots k None in slot_hit at (Some touched) x ≡ false →
+    (slots ≡ slice_set slots k (watch_after_touches at (Some touched) x)) × (due ≡ (due || is_first_hit at (Some touched) x))
+kept_hit at touched slots k due free =
+    let kept = slot_kept at touched (slice_index_or slots k None) due free in
+    (sym (ap (slice_set slots k) kept.0 ∙ set-get_or slots k None), sym kept.1)
 
 take_all : (slots : List (Option Watch)) (k : ℕ) → length slots ≤ k → take k slots ≡ slots
 take_all [] zero done = refl

@@ -3,16 +3,12 @@ use Rattle.std.proofs.Common.{arith, ◌≡◌, ◌≤◌, ◌<◌, ◌+◌, ◌
 use Rattle.std.proofs.Common.{add-suc, Bool, true, false, if◌then◌else◌}
 use Rattle.std.specs.Prelude.{IsSome}
 use Rattle.client_world.specs.{declared.outcome.Exit.{Exit}, WatchWorld.{WatchWorld, Watching, no_watches, host_without_watches}}
-use Rattle.client_world.specs.World.{HostWorld, World}
-use Rattle.host_run.specs.{Run.{with_bound_exit, run, turns}, OtherTurns.{int31_call}, Turn.{after_outcome, turn, with_turn_counted, work}}
+use Rattle.client_world.specs.World.{HostWorld}
+use Rattle.host_run.specs.{Run.{with_bound_exit, run, turns}, OtherTurns.{int31_call}, Turn.{turn}}
 use Rattle.host_run.proofs.Runs.{bounded_ended}
 use Rattle.watch_run.specs.Turn.{run_with_watchpoints, turn_with_watchpoints, turns_with_watchpoints, after_watch_call, is_watch_call}
-use Rattle.watch_run.specs.{Turn.{after_turn_or_call, watches_after}, Hits.{with_hits}, Services.{watch_service}}
-use Rattle.watch_run.proofs.WatchedTurns.{stays}
-
-some_is : (o : Option Exit) (e : Exit) → o ≡ Some e → IsSome o
-some_is None e is = cc
-some_is (Some x) e is = refl
+use Rattle.watch_run.specs.{Turn.{after_turn_or_call, watches_after}, Services.{watch_service}}
+use Rattle.watch_run.proofs.{TurnParts.{none_watched}, WatchedTurns.{stays}}
 
 turns_stop : (w : WatchWorld) (i k : ℕ) → IsSome (turns_with_watchpoints w i).host.exit →
     turns_with_watchpoints w (i + k) ≡ turns_with_watchpoints w i
@@ -38,49 +34,35 @@ run_ended w new n i is lt some =
 pub run_over : (w : WatchWorld) (n : ℕ) (e : Exit) → w.host.exit ≡ Some e → w ≡ run_with_watchpoints w n
 unfolding turns_with_watchpoints
 run_over w n e is =
-    let past = turns_past w 0 n (omega arith) (some_is _ e is) in
+    let past = turns_past w 0 n (omega arith) (subst (λ (o : Option Exit). IsSome o) (sym is) refl) in
     sym (ap (λ (v : WatchWorld). let x : WatchWorld = record v { host = with_bound_exit v.host } in x) past
     ∙ ap (λ (h : HostWorld). let x : WatchWorld = record w { host = h } in x) (bounded_ended w.host e is))
 
 -- ---- no function is served
 
-nothing_watched : (w : World) → watches_after w no_watches ≡ no_watches
-unfolding watches_after with_hits
-nothing_watched w = refl
-
--- a turn of the host, by its exit
-abbrev turn_by : Option Exit → HostWorld → HostWorld
-turn_by None h = after_outcome (work (with_turn_counted h))
-turn_by (Some exit) h = h
-
-turn_is : (o : Option Exit) (h : HostWorld) → elim o as (λ _. HostWorld) [ Some _ ↦ h | None ↦ after_outcome (work (with_turn_counted h)) ]
-    ≡ turn_by o h
-turn_is None h = refl
-turn_is (Some exit) h = refl
-
-turn_of : (h : HostWorld) → turn h ≡ turn_by h.exit h
+host_over : (h : HostWorld) (exit : Exit) → h.exit ≡ Some exit → turn h ≡ h
 unfolding turn
-turn_of h = turn_is h.exit h
+host_over h exit is = rw is refl
 
 -- one with watchpoints, where none is held
-by_exit : (o : Option Exit) (h : HostWorld) (x : WatchWorld) → x ≡ host_without_watches (turn h) → turn h ≡ turn_by o h →
+by_exit : (o : Option Exit) (h : HostWorld) (x : WatchWorld) → h.exit ≡ o → x ≡ host_without_watches (turn h) →
     elim o as (λ _. WatchWorld) [ Some _ ↦ host_without_watches h | None ↦ x ] ≡ host_without_watches (turn h)
-by_exit None h x e t = e
-by_exit (Some exit) h x e t = ap host_without_watches (sym t)
+by_exit None h x is e = e
+by_exit (Some exit) h x is e = ap host_without_watches (sym (host_over h exit is))
 
 -- a function is served, or the turn is the host's
 by_call : (h : HostWorld) (served : WatchWorld) (b : Bool) → b ≡ false →
     (if b then served else record { host = turn h; watching = watches_after h.machine no_watches }) ≡ host_without_watches (turn h)
 by_call h served true e = cc
 by_call h served false e =
-    ap (λ (s : Watching). let w : WatchWorld = record { host = turn h; watching = s } in w) (nothing_watched h.machine)
+    ap (λ (s : Watching). let w : WatchWorld = record { host = turn h; watching = s } in w) (none_watched h.machine no_watches refl)
 
 plain_turn : (h : HostWorld) → is_watch_call (int31_call h) ≡ false →
     turn_with_watchpoints (host_without_watches h) ≡ host_without_watches (turn h)
 unfolding turn_with_watchpoints
 plain_turn h none =
     let served = after_watch_call (host_without_watches h) (watch_service h.machine.regs no_watches) in
-    by_exit h.exit h (after_turn_or_call (host_without_watches h)) (by_call h served (is_watch_call (int31_call h)) none) (turn_of h)
+    by_exit h.exit h (after_turn_or_call (host_without_watches h)) refl (by_call h served (is_watch_call (int31_call h)) none)
 
 plain_turns : (h : HostWorld) (n : ℕ) → ((k : ℕ) → k < n → is_watch_call (int31_call (turns h k)) ≡ false) →
     turns_with_watchpoints (host_without_watches h) n ≡ host_without_watches (turns h n)

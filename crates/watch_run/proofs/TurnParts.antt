@@ -1,16 +1,17 @@
 -- The parts of a turn with watchpoints.
-use Rattle.std.proofs.Common.{◌≡◌, ◌∙◌, ◌+◌, ℕ, Bool, true, false, ◌||◌, List, None, Some, Option, refl, ap, sym, IsTrue}
-use Rattle.std.proofs.Math.Bool.{or-false}
+use Rattle.std.proofs.Common.{arith, ◌≡◌, ◌∙◌, ◌+◌, ℕ, Bool, true, false, ◌||◌, List, None, Some, Option, refl, ap, subst, sym, IsTrue}
 use Rattle.std.specs.Prelude.{◌&&◌, is_ok, if◌then◌else◌}
 use Rattle.client_world.specs.{declared.faults.Fault.{Fault}, declared.outcome.Exit.{Exit}, declared.registers.Regs.{Regs}}
 use Rattle.client_world.specs.{declared.services.Carry.{Carry}, declared.watchpoints.Watch.{Watch}, Registers.{low_half}}
 use Rattle.client_world.specs.{WatchWorld.{WatchWorld, Watching, no_watches}, World.{HostWorld, World}}
+use Rattle.guest_space.specs.declared.windows.CodeWindow.{CodeWindow}
+use Rattle.host_memory.specs.View.{MachineView}
 use Rattle.interrupts.specs.Worlds.{world_after_iret}
 use Rattle.host_run.specs.{OtherTurns.{exception_turn, int31_at, int31_call, int31_turn, is_int31}, declared.traps.Trap.{Trap}}
 use Rattle.host_run.specs.{declared.traps.Trap.TheVariants.{NoTrap, ProtectedVector}, Traps.{current_trap, is_trap}}
 use Rattle.host_run.proofs.OtherTurns.{exception_quiet, int31_quiet}
 use Rattle.watch_run.specs.{Hits.{has_first_hit, instruction_address, next_touches, with_hits}, Services.{WatchAnswer, is_watch_function}}
-use Rattle.watch_run.specs.Turn.{after_watch_call, is_watch_call, turn_touches, watches_after}
+use Rattle.watch_run.specs.Turn.{HasUnwatchedWindow, after_watch_call, is_watch_call, watches_after}
 use Rattle.watch_run.proofs.HitLaws.{marked_none, none_due}
 
 -- ---- the function that is asked for
@@ -48,15 +49,9 @@ not_called h free = no_call h.exit h.machine free
 
 -- ---- where nothing is watched, and where no instruction runs
 
-noted_none : (at : ℕ) (touched : Option _) (s : Watching) → s.watches ≡ no_watches.watches → with_hits at touched s ≡ s
-unfolding with_hits
-noted_none at touched s none =
-    let due = or-false s.due in
-    rw none (ap (λ (b : Bool). let t : Watching = record { watches = no_watches.watches; due = b } in t) due)
-
-pub none_watched : (w : World) (s : Watching) → s.watches ≡ no_watches.watches → watches_after w s ≡ s
-unfolding watches_after
-none_watched w s none = noted_none (instruction_address w) (turn_touches w) s none
+pub none_watched : (w : World) (s : Watching) → s ≡ no_watches → watches_after w s ≡ s
+unfolding watches_after with_hits
+none_watched w s none = subst (λ (t : Watching). watches_after w t ≡ t) (sym none) refl
 
 noted_event : (at : ℕ) (s : Watching) → with_hits at None s ≡ s
 unfolding with_hits
@@ -69,6 +64,11 @@ pub event_watched : (w : World) (s : Watching) → is_trap (current_trap w) ≡ 
 unfolding watches_after
 event_watched w s trap = ap (λ (b : Bool). with_hits (instruction_address w) (if b then None else next_touches w) s) trap
     ∙ noted_event (instruction_address w) s
+
+-- ---- windows of code
+
+pub no_window : (v : MachineView) (s : Watching) (w : CodeWindow) → w.starts ≡ 0 → HasUnwatchedWindow v s w
+no_window v s w none some = absurd (omega (arith, none, some))
 
 -- ---- of two worlds that are one
 

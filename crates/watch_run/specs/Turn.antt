@@ -1,14 +1,16 @@
 -- One turn of a host with watchpoints, and runs. A hit sets the watchpoint's status, and in protected mode raises exception 1 in a turn of
 -- its own after the instruction; one in real mode waits for protected mode. Source: own.
-use Rattle.std.specs.Prelude.{ℕ, zero, suc, Bool, true, false, ◌&&◌, ◌||◌, List, [], if◌then◌else◌, None, Some}
+use Rattle.std.specs.Prelude.{◌≡◌, ◌<◌, ℕ, zero, suc, Bool, true, false, ◌&&◌, ◌||◌, List, [], if◌then◌else◌, None, Some}
 use Rattle.std.specs.{declared.option.Option.{Option}, declared.result.Result.{Result}}
 use Rattle.client_world.specs.{declared.faults.TheConstants.{DEBUG}, declared.outcome.Exit.{Exit}}
 use Rattle.client_world.specs.{declared.registers.Mode.TheVariants.{Real, Protected}, declared.watchpoints.Touch.{Touch}}
 use Rattle.client_world.specs.{Access.{fault_with}, declared.place.Place.{Place}, WatchWorld.{WatchWorld, Watching, host_without_watches}}
-use Rattle.client_world.specs.World.{HostWorld, World}
+use Rattle.client_world.specs.{WatchWorld.{no_watches}, World.{HostWorld, World}}
+use Rattle.guest_space.specs.declared.windows.CodeWindow.{CodeWindow}
+use Rattle.host_memory.specs.View.{MachineView}
 use Rattle.host_run.specs.{Footprint.{Footprint, at_places, delivery_footprint, turn_footprint}, OtherTurns.{exception_turn, int31_call}}
 use Rattle.host_run.specs.{OtherTurns.{int31_turn}, MakesTurn.{MakesTurn}, Run.{with_bound_exit}, Touched.{touched_by_turn}}
-use Rattle.host_run.specs.{Traps.{current_trap, is_trap}, Turn.{turn}, View.{HostView}}
+use Rattle.host_run.specs.{Traps.{current_trap, is_trap}, Turn.{turn}, View.{HostView}, Windows.{IsTrapFree}}
 use Rattle.watch_run.specs.{Hits.{instruction_address, next_touches, with_hits}, Services.{WatchAnswer, is_watch_function, watch_service}}
 
 -- ---- hits
@@ -72,6 +74,10 @@ MakesWatchedTurn old new watching watching_after result =
     let w : WatchWorld = record { host = old.world; watching = watching } in
     let after : WatchWorld = record { host = new.world; watching = watching_after } in
     MakesTurn old new result after (turn_with_watchpoints w) (watch_footprint w)
+
+-- the window has no starts; or it is one of the machine's code and has no trap, no watchpoint is held, and no hit waits
+abbrev pub HasUnwatchedWindow : MachineView → Watching → CodeWindow → Type 0
+HasUnwatchedWindow v s w = 0 < w.starts → IsTrapFree v w × (s ≡ no_watches)
 
 -- ---- runs
 

@@ -1,5 +1,6 @@
 // Which watchpoints the next instruction hits.
-ghost use Rattle.std.specs.Prelude.{◌≡◌, MatchOption, None, Some};
+ghost use Rattle.std.specs.Prelude.{◌≡◌, ◌<◌, ◌||◌, MatchOption, None, Some, length, slice_index_or, slice_set};
+ghost use Rattle.client_world.specs.declared.limits.TheConstants.{WATCHES};
 ghost use Rattle.cpu_step.specs.Step.{client_row};
 ghost use Rattle.insn_forms.specs.Kinds.{IsWellFormed};
 ghost use Rattle.insn_plan.specs.Accesses.{with_next_eip, touches};
@@ -100,30 +101,27 @@ fn slot_hit(at: u32, touches: &[Touch], slot: Option<Watch>) -> bool
     }
 }
 
-// A handle's watchpoint after that; a hit sets the status.
-fn watch_after_touches(at: u32, touches: &[Touch], slot: Option<Watch>) -> Option<Watch>
-    ensures { result ≡ watch_after_touches at (Some touches.now) slot }
-{
-    match slot {
-        None => None,
-        Some(x) => Some(Watch {
-            hit: x.hit || is_hit(at, touches, &x),
-            ..x
-        }),
-    }
-}
-
-// Whether it is hit where its status was clear.
-fn is_first_hit(at: u32, touches: &[Touch], slot: Option<Watch>) -> bool
-    ensures { result ≡ is_first_hit at (Some touches.now) slot }
-{
-    match slot {
-        None => false,
-        Some(x) => !x.hit && is_hit(at, touches, &x),
-    }
-}
-
 impl Watches {
+    // Sets the status of the watchpoint at a place, where an instruction at an address, with those touches, hits it.
+    #[inline(always)]
+    #[tactic(auto, using(crate::proofs::HitLaws::kept_hit))]
+    fn note_hit(&mut self, at: u32, touches: &[Touch], place: usize)
+        requires { place < WATCHES }
+        ensures hit { let slot = slice_index_or self.old.watches place None in self.new ≡ record {
+          watches = slice_set self.old.watches place (watch_after_touches at (Some touches.now) slot);
+          due = self.old.due || is_first_hit at (Some touches.now) slot;
+        } }
+        ensures count { length self.new.watches ≡ WATCHES }
+    {
+        let slot = self.slots()[place];
+        match slot {
+            Some(x) if is_hit(at, touches, &x) => {
+                self.put_hit(place, Some(Watch { hit: true, ..x }), !x.hit);
+            }
+            _ => {}
+        }
+    }
+
     /// Sets the status of each watchpoint that the instruction at CS:EIP hits. A hit is due where the status of one was clear.
     #[inline(never)]
     #[tactic(auto, unfolding(crate::specs::Hits::with_hits), using(crate::proofs::HitLaws::marked_none, //
@@ -138,9 +136,7 @@ impl Watches {
         let at = m.first_byte(SegReg::Cs).wrapping_add(m.registers().eip);
         let count = self.slots().len();
         for k in 0..count {
-            let slot = self.slots()[k];
-            let due = is_first_hit(at, touches.as_slice(), slot);
-            self.put_hit(k, watch_after_touches(at, touches.as_slice(), slot), due);
+            self.note_hit(at, touches.as_slice(), k);
         }
     }
 

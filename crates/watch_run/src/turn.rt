@@ -1,14 +1,14 @@
 // Turns of a host with its client's watchpoints, and runs.
-ghost use Rattle.std.specs.Prelude.{◌≡◌, ◌≤◌, ◌<◌, ◌+◌, IsTrue, false, None, Some};
-ghost use Rattle.client_world.specs.declared.limits.TheConstants.{MAX_STEPS};
-ghost use Rattle.host_run.specs.{MakesTurn.{AnswersBy, turn_answer}, OtherTurns.{int31_call}, View.{machine_view}, Windows.{HasWindow}};
-ghost use Rattle.watch_run.specs.{Services.{is_watch_function, watch_service}, Turn.{MakesWatchedTurn, after_watch_call, is_watch_call}};
-ghost use Rattle.watch_run.specs.Turn.{run_with_watchpoints, delivers_hit, watches_after, watched_run};
+ghost use Rattle.std.specs.Prelude.{◌≡◌, ◌≤◌, ◌<◌, ◌+◌, IsTrue, None, Some};
+ghost use Rattle.client_world.specs.{declared.limits.TheConstants.{MAX_STEPS}, WatchWorld.{no_watches}};
+ghost use Rattle.host_run.specs.{MakesTurn.{AnswersBy, turn_answer}, OtherTurns.{int31_call}, View.{machine_view}, Windows.{IsFound}};
+ghost use Rattle.watch_run.specs.{Services.{is_watch_function, watch_service}, Turn.{HasUnwatchedWindow, MakesWatchedTurn}};
+ghost use Rattle.watch_run.specs.Turn.{after_watch_call, delivers_hit, is_watch_call, run_with_watchpoints, watched_run};
 
 use crate::watch::Watches;
 use client_world::faults::DEBUG;
 use client_world::{Exit, Fault, Mode};
-use guest_space::{CodeWindow, Machine};
+use guest_space::CodeWindow;
 use host_run::{Ended, Host, is_at_trap};
 
 // Whether a function of INT 31h is one of those on watchpoints.
@@ -60,18 +60,6 @@ fn serve_call(h: &mut Host, w: &mut Watches)
     h.int31_done(r, carry);
 }
 
-// Notes the hits of the client instruction that a turn runs. Where no watchpoint was ever made, nothing is decoded.
-#[inline(always)]
-#[tactic(auto, unfolding(crate::specs::Turn::watches_after), using(crate::proofs::TurnParts::none_watched, //
-crate::proofs::TurnParts::event_watched, crate::proofs::TurnParts::step_watched))]
-fn note_turn(m: &Machine, w: &mut Watches)
-    ensures { w.new ≡ watches_after m.now.world w.old }
-{
-    if !w.is_unused() && !is_at_trap(m) {
-        w.note_hits(m);
-    }
-}
-
 // Delivers the hit that is due, as a turn.
 #[inline(never)]
 #[tactic(auto, unfolding(crate::specs::Turn::turn_with_watchpoints), using(crate::proofs::TurnParts::told_steps))]
@@ -93,82 +81,92 @@ fn deliver_hit(h: &mut Host, w: &mut Watches) -> Result<(), Ended>
     }
 }
 
-// The turn of a client with watchpoints.
+// The turn of a client with watchpoints. A window shows that there is no trap, and is not handed on.
 #[cold]
 #[inline(never)]
-#[tactic(auto, unfolding(crate::specs::Turn::turn_with_watchpoints))]
-fn watching_turn(h: &mut Host, w: &mut Watches, window: &mut CodeWindow) -> Result<(), Ended>
+#[tactic(auto, unfolding(crate::specs::Turn::turn_with_watchpoints), using(crate::proofs::TurnParts::event_watched, //
+crate::proofs::TurnParts::step_watched))]
+fn watching_turn(h: &mut Host, w: &mut Watches) -> Result<(), Ended>
     requires no_exit { h.old.world.exit ≡ None }
     requires room { h.old.world.steps < MAX_STEPS }
-    requires window { HasWindow (machine_view h.old) window.old }
     ensures turn { MakesWatchedTurn h.old h.new w.old w.new (turn_answer h.new.world.exit) }
     ensures answer { AnswersBy result h.new.world.exit }
-    ensures window { HasWindow (machine_view h.new) window.new }
 {
-    let ended = if delivers_hit(h, w) {
-        deliver_hit(h, w)
-    } else if is_watch_call(h) {
-        serve_call(h, w);
-        Ok(())
-    } else {
-        note_turn(h.machine(), w);
-        return h.next_turn(window);
-    };
-    *window = CodeWindow::NONE;
-    ended
-}
-
-// The turn of a client that is at no start and set no watchpoint.
-#[cold]
-#[inline(never)]
-#[tactic(auto, unfolding(crate::specs::Turn::turn_with_watchpoints))]
-fn turn_at_no_start(h: &mut Host, w: &mut Watches, window: &mut CodeWindow) -> Result<(), Ended>
-    requires no_exit { h.old.world.exit ≡ None }
-    requires room { h.old.world.steps < MAX_STEPS }
-    requires no_hit { delivers_hit (record { host = h.old.world; watching = w.old }) ≡ false }
-    requires unwatched { watches_after h.old.world.machine w.old ≡ w.old }
-    ensures turn { MakesWatchedTurn h.old h.new w.old w.new (turn_answer h.new.world.exit) }
-    ensures answer { AnswersBy result h.new.world.exit }
-    ensures window { HasWindow (machine_view h.new) window.new }
-{
+    if delivers_hit(h, w) {
+        return deliver_hit(h, w);
+    }
     if is_watch_call(h) {
-        *window = CodeWindow::NONE;
         serve_call(h, w);
         return Ok(());
     }
-    h.turn_outside(window)
-}
-
-// The turn of a client that is at no start of the window that is there, or has watchpoints.
-#[cold]
-#[inline(never)]
-#[tactic(auto, unfolding(crate::specs::Turn::turn_with_watchpoints), using(crate::proofs::TurnParts::none_watched, //
-crate::proofs::TurnParts::not_called))]
-fn turn_elsewhere(h: &mut Host, w: &mut Watches, window: &mut CodeWindow) -> Result<(), Ended>
-    requires no_exit { h.old.world.exit ≡ None }
-    requires room { h.old.world.steps < MAX_STEPS }
-    requires window { HasWindow (machine_view h.old) window.old }
-    ensures turn { MakesWatchedTurn h.old h.new w.old w.new (turn_answer h.new.world.exit) }
-    ensures answer { AnswersBy result h.new.world.exit }
-    ensures window { HasWindow (machine_view h.new) window.new }
-{
-    if !w.is_unused() {
-        return watching_turn(h, w, window);
-    }
-    match h.find_start(window) {
+    let mut window = CodeWindow::NONE;
+    match h.find_start(&mut window) {
         Some(from) => {
-            h.no_trap_in(window, from);
-            h.turn_in_window(window, from)
+            h.no_trap_in(&window, from);
+            w.note_hits(h.machine());
+            h.turn_in_window(&mut window, from)
         }
-        None => turn_at_no_start(h, w, window),
+        None => {
+            if !is_at_trap(h.machine()) {
+                w.note_hits(h.machine());
+            }
+            h.turn_outside(&mut window)
+        }
     }
 }
 
-/// One turn, as `watch_turn` makes it, of a client that has not ended, with a window of code that turns hand on. It answers only whether
-/// the run has ended. Source: own.
+// The turn of a client that set no watchpoint, at that start of a window.
 #[inline(always)]
 #[tactic(auto, unfolding(crate::specs::Turn::turn_with_watchpoints), using(crate::proofs::TurnParts::none_watched, //
 crate::proofs::TurnParts::not_called))]
+fn unwatched_turn(
+    h: &mut Host,
+    w: &mut Watches,
+    window: &mut CodeWindow,
+    from: u32,
+) -> Result<(), Ended>
+    requires no_exit { h.old.world.exit ≡ None }
+    requires room { h.old.world.steps < MAX_STEPS }
+    requires unwatched { w.old ≡ no_watches }
+    requires found { IsFound (machine_view h.old) window.old (Some from) }
+    ensures turn { MakesWatchedTurn h.old h.new w.old w.new (turn_answer h.new.world.exit) }
+    ensures answer { AnswersBy result h.new.world.exit }
+    ensures window { HasUnwatchedWindow (machine_view h.new) w.new window.new }
+{
+    h.no_trap_in(window, from);
+    h.turn_in_window(window, from)
+}
+
+// The turn of a client that is at no start of the window that is there.
+#[cold]
+#[inline(never)]
+#[tactic(auto, unfolding(crate::specs::Turn::turn_with_watchpoints), using(crate::proofs::TurnParts::none_watched))]
+fn turn_elsewhere(h: &mut Host, w: &mut Watches, window: &mut CodeWindow) -> Result<(), Ended>
+    requires no_exit { h.old.world.exit ≡ None }
+    requires room { h.old.world.steps < MAX_STEPS }
+    requires window { HasUnwatchedWindow (machine_view h.old) w.old window.old }
+    ensures turn { MakesWatchedTurn h.old h.new w.old w.new (turn_answer h.new.world.exit) }
+    ensures answer { AnswersBy result h.new.world.exit }
+    ensures window { HasUnwatchedWindow (machine_view h.new) w.new window.new }
+{
+    if !w.is_unused() {
+        *window = CodeWindow::NONE;
+        return watching_turn(h, w);
+    }
+    match h.find_start(window) {
+        Some(from) => unwatched_turn(h, w, window, from),
+        None if is_watch_call(h) => {
+            *window = CodeWindow::NONE;
+            serve_call(h, w);
+            Ok(())
+        }
+        None => h.turn_outside(window),
+    }
+}
+
+/// One turn, as `watch_turn` makes it, of a client that has not ended, with a window of code that turns hand on as long as the client set
+/// no watchpoint. It answers only whether the run has ended. Source: own.
+#[inline(always)]
 pub fn next_watched_turn(
     h: &mut Host,
     w: &mut Watches,
@@ -176,19 +174,15 @@ pub fn next_watched_turn(
 ) -> Result<(), Ended>
     requires no_exit { h.old.world.exit ≡ None }
     requires room { h.old.world.steps < MAX_STEPS }
-    requires window { HasWindow (machine_view h.old) window.old }
+    requires window { HasUnwatchedWindow (machine_view h.old) w.old window.old }
     ensures turn { MakesWatchedTurn h.old h.new w.old w.new (turn_answer h.new.world.exit) }
     ensures answer { AnswersBy result h.new.world.exit }
-    ensures window { HasWindow (machine_view h.new) window.new }
+    ensures window { HasUnwatchedWindow (machine_view h.new) w.new window.new }
 {
-    // Nothing is watched, no hit waits, and a client's instruction calls no function: the turn is the host's.
-    if w.is_unused() {
-        if let Some(from) = h.start_in(window) {
-            h.no_trap_in(window, from);
-            return h.turn_in_window(window, from);
-        }
+    match h.start_in(window) {
+        Some(from) => unwatched_turn(h, w, window, from),
+        None => turn_elsewhere(h, w, window),
     }
-    turn_elsewhere(h, w, window)
 }
 
 /// One turn of a host with its client's watchpoints. In protected mode a hit that is due is delivered as exception 1, in a turn of its own;

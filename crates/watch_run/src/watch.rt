@@ -63,8 +63,7 @@ impl Watches {
 
     /// Whether no watchpoint was made yet, so that none is held, and no hit waits.
     pub(crate) fn is_unused(&self) -> bool
-        ensures watches { result ≡ true → self.now.watches ≡ no_watches.watches }
-        ensures due { result ≡ true → self.now.due ≡ false }
+        ensures { result ≡ true → self.now ≡ no_watches }
     {
         !self.used
     }

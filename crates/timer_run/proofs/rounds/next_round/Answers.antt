@@ -1,11 +1,12 @@
 use Rattle.std.proofs.Common.{arith, rules, ℕ, Bool, true, false, ◌≡◌, ◌<◌, ◌∙◌, List, None, Ok, Err, ap, refl, subst, sym}
 use Rattle.std.specs.Prelude.{IfErr, if◌then◌else◌}
 use Rattle.client_world.specs.{declared.limits.TheConstants.{MAX_STEPS}, WatchWorld.{WatchWorld}, World.{HostWorld}}
-use Rattle.host_run.specs.{Footprint.{ChangesOnly}, MakesTurn.{turn_answer}, Windows.{HasWindow}}
-use Rattle.host_run.proofs.{Runs.{by_exit}, Touches.{kept}, WindowStarts.{no_starts}}
+use Rattle.host_run.specs.{Footprint.{ChangesOnly}, MakesTurn.{turn_answer}, View.{machine_view}}
+use Rattle.host_run.proofs.{Runs.{by_exit}, Touches.{kept}}
 use Rattle.timer_run.specs.{Rounds.{MakesRound, round_footprint, timed}, Timer.{TimerState, timer_answer, timer_footprint, timer_part}}
 use Rattle.timer_run.proofs.RoundParts.{answered_exit, answered_on, part_every, part_steps, exit_made, interrupt_made, turn_changes}
-use Rattle.{timer_run.proofs.RoundParts.{turn_from, turn_made}, watch_run.specs.Turn.{watch_footprint}}
+use Rattle.{timer_run.proofs.RoundParts.{turn_from, turn_made}, watch_run.proofs.TurnParts.{no_window}}
+use Rattle.watch_run.specs.Turn.{HasUnwatchedWindow, watch_footprint}
 use Rattle.timer_run.proofs.rounds.next_round.Goals as goal
 
 -- ---- the round is the interrupt
@@ -35,7 +36,7 @@ returns-in-Ok-true-clause-every c =
     ap (λ (t : TimerState). t.every) c.begin_round.ensures.timer ∙ part_every c.args.timer.now c.args.host.now.world
 
 pub returns-in-Ok-true-clause-window : goal.returns-in-Ok-true-clause-window
-returns-in-Ok-true-clause-window c = no_starts _ _ refl
+returns-in-Ok-true-clause-window c = no_window _ _ _ refl
 
 -- ---- the turn is made
 
@@ -45,14 +46,11 @@ next_watched_turn-requires c =
     let answer : Ok false ≡ timer_answer (timer_part t h) = cc (c.in-Ok-false.field-0-test, c.in-Ok-false.ensures.answer) in
     let same = turn_from t h c.begin_round.new.host.world c.begin_round.ensures.host answer in
     let bytes = c.in-Ok-false.ensures.kept (λ e. cc (c.in-Ok-false.field-0-test, e)) in
+    let view : machine_view c.args.host.now ≡ machine_view c.begin_round.new.host = cc (same, bytes) in
     record {
       no_exit = subst (λ (h : HostWorld). h.exit ≡ None) (sym same) c.requires.no_exit;
       room = subst (λ (h : HostWorld). h.steps < MAX_STEPS) (sym same) c.requires.room;
-      window =
-          subst (λ (b : List ℕ). HasWindow (record { world = c.begin_round.new.host.world.machine; bytes = b }) c.args.window.now)
-          (sym bytes)
-          (subst (λ (h : HostWorld). HasWindow (record { world = h.machine; bytes = c.args.host.now.bytes }) c.args.window.now) (sym same)
-          c.requires.window);
+      window = subst (λ v. HasUnwatchedWindow v c.args.watches.now c.args.window.now) view c.requires.window;
     }
 
 pub returns-in-Ok-false-clause-round : goal.returns-in-Ok-false-clause-round

@@ -1,4 +1,4 @@
-use Rattle.{std.proofs.Common.{arith, ◌∙◌, ap, refl, sym}, host_run.proofs.WindowStarts.{no_starts}, host_run.specs.View.{HostView}}
+use Rattle.{std.proofs.Common.{arith, ◌∙◌, ap, refl, sym}, host_run.specs.View.{HostView}, watch_run.proofs.TurnParts.{no_window}}
 use Rattle.{timer_run.specs.Timer.{TimerState}, timer_run.proofs.RoundParts.{run_bounded, run_ended, run_goes_on, run_over, run_starts}}
 use Rattle.timer_run.proofs.rounds.timed_run.Goals as goal
 
@@ -11,7 +11,7 @@ loop-count-init c = (
   ap (λ (t : TimerState). t.every) c.new-timer.ensures,
   omega arith,
   sym c.in_default.ensures,
-  no_starts _ _ refl,
+  no_window _ _ _ refl,
 )
 
 pub next_round-requires : goal.next_round-requires

@@ -1,6 +1,7 @@
 use Rattle.std.proofs.Common.{◌≡◌, ◌≤◌, ◌+◌, None}
-use Rattle.host_run.specs.{View.{machine_view}, Windows.{HasWindow}}
+use Rattle.host_run.specs.View.{machine_view}
 use Rattle.timer_run.specs.Rounds.{timed_rounds}
+use Rattle.watch_run.specs.Turn.{HasUnwatchedWindow}
 use Rattle.timer_run.proofs.rounds.timed_run.Given as goal
 
 abbrev pub invariant-loop-count : goal.invariant-loop-count
@@ -10,4 +11,4 @@ invariant-loop-count l =
     × (l.timer.every ≡ l.every)
     × (l.host.world.steps ≤ l.fn.host.world.steps + l.count)
     × (l.host.world.exit ≡ None)
-    × HasWindow (machine_view l.host) l.window
+    × HasUnwatchedWindow (machine_view l.host) l.watches l.window

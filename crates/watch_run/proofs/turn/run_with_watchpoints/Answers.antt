@@ -1,6 +1,6 @@
 use Rattle.{std.proofs.Common.{arith, refl, sym, ◌∙◌, ap}, client_world.specs.WatchWorld.{WatchWorld}, host_run.specs.View.{HostView}}
-use Rattle.{host_run.proofs.WindowStarts.{no_starts}, watch_run.specs.Turn.{turn_with_watchpoints, turns_with_watchpoints}}
-use Rattle.watch_run.proofs.{Runs.{run_ended, run_over}, WatchedTurns.{one_more}}
+use Rattle.watch_run.proofs.{TurnParts.{no_window}, Runs.{run_ended, run_over}, WatchedTurns.{one_more}}
+use Rattle.watch_run.specs.Turn.{turn_with_watchpoints, turns_with_watchpoints}
 use Rattle.watch_run.proofs.turn.run_with_watchpoints.Goals as goal
 
 pub returns-in-Some-clause-world : goal.returns-in-Some-clause-world
@@ -10,7 +10,7 @@ returns-in-Some-clause-world c =
 
 pub loop-count-init : goal.loop-count-init
 unfolding turns_with_watchpoints
-loop-count-init c = (refl, omega arith, sym c.in_default.ensures, no_starts _ _ refl)
+loop-count-init c = (refl, omega arith, sym c.in_default.ensures, no_window _ _ _ refl)
 
 pub next_watched_turn-requires : goal.next_watched_turn-requires
 next_watched_turn-requires c = record {

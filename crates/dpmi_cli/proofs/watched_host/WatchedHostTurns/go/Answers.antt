@@ -1,5 +1,5 @@
 use Rattle.{std.proofs.Common.{arith, refl, sym, subst, ◌+◌}, std.specs.Prelude.{IsSome}, client_world.specs.WatchWorld.{WatchWorld}}
-use Rattle.{host_run.proofs.WindowStarts.{no_starts}, pair_run.proofs.OwnRuns.{turns_none}, watch_run.specs.Turn.{turn_with_watchpoints}}
+use Rattle.{pair_run.proofs.OwnRuns.{turns_none}, watch_run.proofs.TurnParts.{no_window}, watch_run.specs.Turn.{turn_with_watchpoints}}
 use Rattle.dpmi_cli.proofs.RunAnswers.{all_turns, next_turn}
 use Rattle.dpmi_cli.proofs.watched_host.WatchedHostTurns.go.Goals as goal
 
@@ -14,7 +14,7 @@ loop-count-init c = record {
   world = sym (turns_none turn_with_watchpoints (record { host = c.args.self.now.host.world; watching = c.args.self.now.watches }));
   room = let left = c.requires (sym c.in_default.ensures) in omega arith;
   no_exit = sym c.in_default.ensures;
-  window = no_starts _ _ refl;
+  window = no_window _ _ _ refl;
 }
 
 pub next_watched_turn-requires : goal.next_watched_turn-requires
