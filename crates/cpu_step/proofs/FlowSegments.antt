@@ -14,16 +14,20 @@ use Rattle.exec_flow.specs.{Segments.{pop_segment, load_pointer}, Transfers.{at_
 use Rattle.exec_flow.specs.Transfers.{call, immediate, ret}
 use Rattle.insn_forms.specs.{declared.insn.Insn.{Insn}, declared.insn.Op.{Op}, declared.insn.Operand.{Operand}}
 use Rattle.insn_forms.specs.declared.insn.Operand.TheVariants.{Empty, Reg, Seg, Mem, Imm, Far}
-use Rattle.insn_plan.specs.{Act.{Act, Pending, done, raise}, Stack.{regs_after_pops}}
-use Rattle.cpu_step.proofs.SegmentWords.{HoldWords, LeavesWords, leaves_if, leaves_by_mode, leaves_unless, words_register, words_put}
-use Rattle.cpu_step.proofs.SegmentWords.{words_pushed, words_selector, half_is_word}
+use Rattle.insn_plan.specs.{Act.{Act, Pending, done, raise}, Conditions.{condition}, Stack.{regs_after_pops}}
+use Rattle.cpu_step.proofs.SegmentWords.{HoldWith, HoldWords, LeavesWith, LeavesWords, leaves_if, leaves_by_mode, leaves_unless}
+use Rattle.cpu_step.proofs.SegmentWords.{words_register, words_put, words_pushed, words_selector, half_is_word}
 use Rattle.insn_forms.specs.declared.insn.Op.TheVariants as ops
 
 -- ---- near transfers
 
-near_leaves : (w : World) (i : Insn) (ip : ℕ) (p : Pending) → HoldWords p.regs → LeavesWords (near_transfer w i ip p)
+near_leaves : {P : ℕ → Type 0} (w : World) (i : Insn) (ip : ℕ) (p : Pending) → HoldWith P p.regs → LeavesWith P (near_transfer w i ip p)
 unfolding near_transfer
 near_leaves w i ip p s = leaves_unless _ (transfer_fault w w.regs.cs (at_operand_size i ip) false) _ s
+
+pub jcc_leaves : {P : ℕ → Type 0} (w : World) (i : Insn) (n : ℕ) → HoldWith P w.regs → LeavesWith P (jcc w i n)
+unfolding jcc
+jcc_leaves w i n s = λ ip. leaves_if _ (condition n w.regs.flags) _ _ (near_leaves w i ip _ s) s
 
 -- ---- far transfers
 

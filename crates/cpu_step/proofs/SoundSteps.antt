@@ -1,5 +1,5 @@
 -- Writes leave a sound world sound, and so do a plan whose segment registers hold words and a step of the client's; a row of exec_core
--- keeps CS, and a window of code outlives a step that keeps CS.
+-- and Jcc keep CS, and a window of code outlives a step that keeps CS.
 use Rattle.std.proofs.Common.{◌≡◌, ℕ, zero, suc, ◌/◌, ◌%◌, ◌<◌, List, [], ◌∷◌, length, slice_index, refl, sym, subst, arith, nat_eq}
 use Rattle.std.proofs.Common.{if◌then◌else◌, Bool, true, false, Option, None, Some, Result, Ok, Err, ◌∙◌, ap}
 use Rattle.client_world.specs.{declared.faults.Event.{Event}, declared.faults.Event.TheVariants.{Fault as fault}}
@@ -13,14 +13,14 @@ use Rattle.guest_space.proofs.{Machines.{with_places_world}, OnlyWritten.{write_
 use Rattle.host_memory.specs.{View.{MachineView}, Layout.{world_of}}
 use Rattle.insn_plan.specs.{Act.{Pending, Act}, Plan.{after_commit, with_state, plan_result, after_plan, CarriesOut, Follows}}
 use Rattle.exec_core.specs.Dispatch.{is_core, core_row}
-use Rattle.exec_flow.specs.Dispatch.{flow_row}
+use Rattle.exec_flow.specs.{Dispatch.{flow_row}, Transfers.{jcc}}
 use Rattle.insn_decode.specs.{declared.decoding.Decoded.{Decoded}, declared.decoding.Decoded.TheVariants.{Whole, More, Invalid}}
 use Rattle.insn_decode.specs.Decode.{decoded}
 use Rattle.insn_forms.specs.declared.insn.Insn.{Insn}
 use Rattle.cpu_step.specs.{Windows.{IsHandedOn, IsInSegment}, Step.{has_big_code, code, view_with_next_eip, client_row, after_instruction}}
 use Rattle.cpu_step.specs.Step.{step_of, client_step}
-use Rattle.cpu_step.proofs.{CoreSegments.{core_leaves}, FlowSegments.{flow_leaves}, SegmentWords.{HoldWith, HoldWords, LeavesWith}}
-use Rattle.cpu_step.proofs.SegmentWords.{LeavesWords, words_of, segments_of, leaves_if, planned_words}
+use Rattle.cpu_step.proofs.{CoreSegments.{core_leaves}, FlowSegments.{flow_leaves, jcc_leaves}, SegmentWords.{HoldWith, HoldWords}}
+use Rattle.cpu_step.proofs.SegmentWords.{LeavesWith, LeavesWords, words_of, segments_of, leaves_if, planned_words}
 use Rattle.std.specs.Prelude.{OnOk}
 use Rattle.insn_plan.proofs.WrittenState.{all_state}
 
@@ -131,7 +131,7 @@ pub sound_step : (v u : MachineView) → IsSound v.world → client_step v ≡ O
 unfolding client_step
 sound_step v u s e = sound_step_of v u (decoded (has_big_code v.world) (code v.world)) s e
 
--- ---- a row of exec_core keeps CS
+-- ---- a row of exec_core keeps CS, and so does Jcc
 
 cs_unless : (v u : MachineView) (p : Pending) (o : Option Fault) →
     elim o as (λ _. Result MachineView Event) [ Some f ↦ Err (fault f) | None ↦ Ok (with_state p.regs p.vif (after_writes v p.writes)) ]
@@ -148,14 +148,22 @@ cs_carried v u act (Ok p) plan keeps e =
     cs_unless v u p (first_write_fault v.world p.writes) e ∙ (planned_words v.world act p keeps plan).cs_fits
 cs_carried v u act (Err event) plan keeps e = absurd cc
 
+keeps_cs : (v u : MachineView) (act : Act) (w : CodeWindow) (r : Result (Unit {0}) Event) → IsInSegment v w → IsSound v.world →
+    (HoldWith (λ cs. cs ≡ v.world.regs.cs) v.world.regs → LeavesWith (λ cs. cs ≡ v.world.regs.cs) act) →
+    CarriesOut v u r act → OnOk r (IsInSegment u w)
+keeps_cs v u act w (Ok _) own s leaves carried =
+    let segments = s.segments in
+    let keeps : HoldWith (λ cs. cs ≡ v.world.regs.cs) v.world.regs = search segments in
+    λ some. own some ∙ sym (cs_carried v u act (plan_result v.world act) refl (leaves keeps) carried)
+keeps_cs v u act w (Err e) own s leaves carried = tt
+
 pub core_keeps_cs : (v u : MachineView) (i : Insn) (len : ℕ) (w : CodeWindow) (r : Result (Unit {0}) Event) →
     IsInSegment v w → IsSound v.world → CarriesOut v u r (core_row i.op v.world i len) → OnOk r (IsInSegment u w)
-core_keeps_cs v u i len w (Ok _) own s carried =
-    let segments = s.segments in
-    let act = core_row i.op v.world i len in
-    let keeps : HoldWith (λ cs. cs ≡ v.world.regs.cs) v.world.regs = search (segments, refl) in
-    λ some. own some ∙ sym (cs_carried v u act (plan_result v.world act) refl (core_leaves i.op v.world i len keeps) carried)
-core_keeps_cs v u i len w (Err e) own s carried = tt
+core_keeps_cs v u i len w r own s = keeps_cs v u _ w r own s (core_leaves i.op v.world i len)
+
+pub jcc_keeps_cs : (v u : MachineView) (i : Insn) (n : ℕ) (w : CodeWindow) (r : Result (Unit {0}) Event) →
+    IsInSegment v w → IsSound v.world → CarriesOut v u r (jcc v.world i n) → OnOk r (IsInSegment u w)
+jcc_keeps_cs v u i n w r own s = keeps_cs v u _ w r own s (jcc_leaves v.world i n)
 
 -- ---- windows of code
 

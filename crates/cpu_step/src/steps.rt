@@ -10,10 +10,10 @@ use arrayvec::ArrayVec;
 use client_world::faults::{GENERAL_PROTECTION, INVALID_OPCODE};
 use client_world::{Event, Fault, SegReg};
 use exec_core::carry_out_core;
-use exec_flow::carry_out_flow;
+use exec_flow::{carry_out_flow, carry_out_jcc};
 use guest_space::{CodeWindow, Machine};
 use insn_decode::{Decoded, Memo, decode};
-use insn_forms::{Insn, every_instruction_is_well_formed};
+use insn_forms::{Insn, Op, every_instruction_is_well_formed};
 use insn_plan::Raised;
 
 /// Whether operands and addresses have 32 bits where no prefix says otherwise: the code segment has D = 1.
@@ -35,17 +35,17 @@ pub fn move_past(m: &mut Machine, len: u8)
     m.set_eip(m.registers().eip.wrapping_add(u32::from(len)));
 }
 
-// Runs an instruction of a shape, whose EIP is already after it, by the crate that has it. Only an instruction of exec_flow can change CS;
-// where it did, the window is given up.
+// Runs an instruction of a shape, whose EIP is already after it, by the crate that has it. Only an instruction of exec_flow other than Jcc
+// can change CS; where it did, the window is given up.
 #[inline(always)]
-#[tactic(auto, unfolding(crate::specs::Step::client_row), using(crate::proofs::CoreOrFlow::flow_where_not_core, //
-crate::proofs::SoundSteps::core_keeps_cs))]
+#[tactic(auto, unfolding(crate::specs::Step::client_row, exec_flow::specs::Dispatch::flow_row), //
+using(crate::proofs::CoreOrFlow::flow_where_not_core, crate::proofs::SoundSteps::core_keeps_cs, crate::proofs::SoundSteps::jcc_keeps_cs))]
 fn run(
     m: &mut Machine,
     window: &mut CodeWindow,
     insn: &Insn,
     len: u8,
-    shape: u8,
+    shape: u16,
 ) -> Result<(), Raised>
     requires well_formed { IsWellFormed insn.now }
     requires shape { HasShape shape insn.now }
@@ -57,6 +57,9 @@ fn run(
     m.soundness();
     if let Some(result) = carry_out_core(m, insn, len, shape) {
         return result;
+    }
+    if let Op::Jcc(condition) = insn.op {
+        return carry_out_jcc(m, insn, condition);
     }
     let result = carry_out_flow(m, insn, len);
     if m.registers().cs != window.cs {
@@ -84,7 +87,7 @@ fn execute(
     window: &mut CodeWindow,
     insn: &Insn,
     len: u8,
-    shape: u8,
+    shape: u16,
 ) -> Result<(), Raised>
     requires well_formed { IsWellFormed insn.now }
     requires shape { HasShape shape insn.now }
@@ -163,31 +166,6 @@ pub fn find_window(m: &mut Machine) -> CodeWindow
     m.code_window()
 }
 
-// Makes the instruction at that start of a window, where the memo lacks it or it has more than 8 bytes.
-#[inline(always)]
-fn learn_and_step(
-    m: &mut Machine,
-    memo: &mut Memo,
-    window: &mut CodeWindow,
-    from: u32,
-) -> Result<(), Raised>
-    requires window { IsWindow m.old window.old }
-    requires start { from < window.old.starts }
-    requires here { window.old.first + from ≡ m.old.world.regs.eip }
-    ensures step { Follows m.old m.new result (client_step m.old) }
-    ensures handed_on { IsHandedOn window.old window.new }
-    ensures segment { OnOk result (IsInSegment m.new window.new) }
-{
-    let words = m.words_in(window, from);
-    match memo.learn(window.place + from, words) {
-        Some(entry) => execute(m, window, &entry.insn, entry.len, entry.shape),
-        None => {
-            *window = CodeWindow::NONE;
-            step_raised(m)
-        }
-    }
-}
-
 // What comes of an instruction that the memo lacks. The event is the first variant, and in the `Result` of `execute` the second: where both
 // had one order, the compiler would merge the two and test what comes of it twice.
 enum Learned {
@@ -195,7 +173,17 @@ enum Learned {
     Done,
 }
 
-// `learn_and_step`, out of line.
+// The answer of a step, as what comes of an instruction that the memo lacks.
+fn as_learned(answer: Result<(), Raised>) -> Learned
+    ensures { learned_answer result ≡ answer }
+{
+    match answer {
+        Ok(()) => Learned::Done,
+        Err(raised) => Learned::Event(raised),
+    }
+}
+
+// Makes the instruction at that start of a window, where the memo lacks it or it has more than 8 bytes.
 #[cold]
 #[inline(never)]
 fn step_of_unknown(m: &mut Machine, memo: &mut Memo, window: &mut CodeWindow, from: u32) -> Learned
@@ -206,9 +194,13 @@ fn step_of_unknown(m: &mut Machine, memo: &mut Memo, window: &mut CodeWindow, fr
     ensures handed_on { IsHandedOn window.old window.new }
     ensures segment { OnOk (learned_answer result) (IsInSegment m.new window.new) }
 {
-    match learn_and_step(m, memo, window, from) {
-        Ok(()) => Learned::Done,
-        Err(raised) => Learned::Event(raised),
+    let words = m.words_in(window, from);
+    match memo.learn(window.place + from, words) {
+        Some(entry) => as_learned(execute(m, window, &entry.insn, entry.len, entry.shape)),
+        None => {
+            *window = CodeWindow::NONE;
+            as_learned(step_raised(m))
+        }
     }
 }
 

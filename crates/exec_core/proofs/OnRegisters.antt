@@ -74,18 +74,18 @@ lea_on v i width n wide first =
 
 -- ---- what a shape says
 
--- below 96 its first operand is its register
-pub shaped_first : (i : Insn) (shape width n : ℕ) → HasShape shape i → shape < 96 → shape_width shape ≡ width → n ≡ shape % 8 →
+-- below 264 its first operand is its register
+pub shaped_first : (i : Insn) (shape width n : ℕ) → HasShape shape i → shape < 264 → shape_width shape ≡ width → n ≡ shape % 8 →
     i.first ≡ Reg width n
 shaped_first i shape width n h some wide number =
-    h.first (omega arith) ∙ rw (lt-ltb shape 96 some, wide, sym number) refl
+    h.first (omega arith) ∙ rw (lt-ltb shape 264 some, wide, sym number) refl
 
-pub on_shape : (w : World) (i : Insn) (shape width read n b : ℕ) → HasShape shape i → shape < 96 → shape_width shape ≡ width →
+pub on_shape : (w : World) (i : Insn) (shape width read n b : ℕ) → HasShape shape i → shape < 264 → shape_width shape ≡ width →
     n ≡ shape % 8 → value_of w (source w.regs i.addr32 read i.second) ≡ Ok b → HasOperands w i width read (Reg width n) b
 on_shape w i shape width read n b h some wide number second =
     record { width = h.width (omega arith) ∙ wide; first = shaped_first i shape width n h some wide number; second = second }
 
-pub register_gives : (w : World) (i : Insn) (shape width n v : ℕ) → HasShape shape i → shape < 96 → shape_width shape ≡ width →
+pub register_gives : (w : World) (i : Insn) (shape width n v : ℕ) → HasShape shape i → shape < 264 → shape_width shape ≡ width →
     n ≡ shape % 8 → v ≡ register w.regs width n → value_of w (source w.regs i.addr32 width i.first) ≡ Ok v
 register_gives w i shape width n v h some wide number is =
     rw (shaped_first i shape width n h some wide number, from_register w i.addr32 width width n, is) refl

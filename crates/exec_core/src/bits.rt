@@ -3,7 +3,7 @@
 crate::specs::Bits::bit_scan, insn_plan::specs::Plan::after_plan, insn_plan::specs::Plan::after_commit, //
 guest_space::specs::Pending::first_write_fault, guest_space::specs::Pending::after_writes))]
 
-ghost use Rattle.std.specs.Prelude.{◌≡◌, ℕ, ◌+◌, ◌%◌, ◌<◌, ◌^◌, IsTrue};
+ghost use Rattle.std.specs.Prelude.{◌≡◌, ℕ, ◌+◌, ◌%◌, ◌<◌, ◌^◌, IsTrue, if◌then◌else◌};
 ghost use Rattle.exec_core.specs.Bits.{setcc, bit_distance, bit_operand, bit_at, bit_set, bit_reset, bit_complement, bit_test, bit_change};
 ghost use Rattle.exec_core.specs.Bits.{bit_scan, lowest_bit, highest_bit};
 ghost use Rattle.insn_forms.specs.Kinds.{is_width};
@@ -181,11 +181,11 @@ fn highest_bit(mut v: u32, width: u8) -> u32
     u32::from(width)
 }
 
-/// BSF. Source: 80386 Programmer's Reference Manual, ch. 17.
+/// BSF where `forward`, otherwise BSR. Source: 80386 Programmer's Reference Manual, ch. 17.
 #[inline(never)]
-pub(crate) fn bit_scan_forward(m: &mut Machine, i: &Insn) -> Result<(), Raised>
+pub(crate) fn bit_scan(m: &mut Machine, i: &Insn, forward: bool) -> Result<(), Raised>
     requires { IsTrue (is_width i.now.width) }
-    ensures { CarriesOut m.old m.new result (bit_scan lowest_bit m.old.world i.now) }
+    ensures { CarriesOut m.old m.new result (bit_scan (if forward then lowest_bit else highest_bit) m.old.world i.now) }
 {
     let v = cut(i.width, source(m, i.addr32, i.width, &i.second)?);
     let flags = Flags {
@@ -196,25 +196,10 @@ pub(crate) fn bit_scan_forward(m: &mut Machine, i: &Insn) -> Result<(), Raised>
         m.set_flags(flags);
         return Ok(());
     }
-    let place = lowest_bit(v, i.width);
-    put_with_flags(m, flags, i.addr32, i.width, &i.first, place)
-}
-
-/// BSR. Source: 80386 Programmer's Reference Manual, ch. 17.
-#[inline(never)]
-pub(crate) fn bit_scan_reverse(m: &mut Machine, i: &Insn) -> Result<(), Raised>
-    requires { IsTrue (is_width i.now.width) }
-    ensures { CarriesOut m.old m.new result (bit_scan highest_bit m.old.world i.now) }
-{
-    let v = cut(i.width, source(m, i.addr32, i.width, &i.second)?);
-    let flags = Flags {
-        zf: v == 0,
-        ..m.registers().flags
+    let place = if forward {
+        lowest_bit(v, i.width)
+    } else {
+        highest_bit(v, i.width)
     };
-    if v == 0 {
-        m.set_flags(flags);
-        return Ok(());
-    }
-    let place = highest_bit(v, i.width);
     put_with_flags(m, flags, i.addr32, i.width, &i.first, place)
 }

@@ -5,9 +5,7 @@ ghost use Rattle.insn_forms.specs.{Kinds.{is_segment, is_width, has_good_number,
 ghost use Rattle.insn_plan.specs.Plan.{CarriesOut};
 
 use crate::arithmetic::{Arithmetic, Comparison, OneOperand};
-use crate::bits::{
-    Reset, Set, Toggle, bit_change, bit_scan_forward, bit_scan_reverse, bit_test, setcc,
-};
+use crate::bits::{Reset, Set, Toggle, bit_change, bit_scan, bit_test, setcc};
 use crate::decimal::{
     adjust_after_addition, adjust_after_product, adjust_after_subtraction, adjust_before_division,
     decimal_adjust_after_addition, decimal_adjust_after_subtraction,
@@ -61,7 +59,7 @@ pub fn carry_out_core(
     m: &mut Machine,
     insn: &Insn,
     len: u8,
-    shape: u8,
+    shape: u16,
 ) -> Option<Result<(), Raised>>
     requires width { IsTrue (is_width insn.now.width) }
     requires number { IsTrue (has_good_number insn.now.op) }
@@ -112,8 +110,8 @@ pub fn carry_out_core(
         Op::Bts => Some(bit_change::<Set>(m, insn)),
         Op::Btr => Some(bit_change::<Reset>(m, insn)),
         Op::Btc => Some(bit_change::<Toggle>(m, insn)),
-        Op::Bsf => Some(bit_scan_forward(m, insn)),
-        Op::Bsr => Some(bit_scan_reverse(m, insn)),
+        Op::Bsf => Some(bit_scan(m, insn, true)),
+        Op::Bsr => Some(bit_scan(m, insn, false)),
         Op::Setcc(n) => Some(setcc(m, insn, n)),
         Op::Movzx(from) => Some(movzx(m, insn, from)),
         Op::Movsx(from) => Some(movsx(m, insn, from)),

@@ -173,19 +173,19 @@ fn put_offset(
     m: &mut Machine,
     i: &Insn,
     shape: usize,
-    known: u8,
+    known: u16,
     width: u8,
     off: u32,
 ) -> Result<(), Raised>
     requires shape { HasShape shape i.now }
     requires known { known ≡ shape }
-    requires some { known < 96 }
+    requires some { known < 264 }
     requires wide { shape_width known ≡ width }
     requires width { IsTrue (is_width width) }
     requires off { off ≡ operand_offset m.old.world i.now i.now.second }
     ensures { CarriesOut m.old m.new result (lea m.old.world i.now) }
 {
-    put_register(m, width, known % 8, cut(width, off));
+    put_register(m, width, (known % 8) as u8, cut(width, off));
     Ok(())
 }
 
@@ -199,8 +199,8 @@ pub(crate) fn lea(m: &mut Machine, i: &Insn, shape: usize) -> Result<(), Raised>
     let off = operand_offset(m, i, &i.second);
     at_shape!(
         shape, known,
-        80 81 82 83 84 85 86 87 => put_offset(m, i, shape, known, 16, off),
-        88 89 90 91 92 93 94 95 => put_offset(m, i, shape, known, 32, off),
+        248 249 250 251 252 253 254 255 => put_offset(m, i, shape, known, 16, off),
+        256 257 258 259 260 261 262 263 => put_offset(m, i, shape, known, 32, off),
         _ => put_operand(m, i.addr32, i.width, &i.first, cut(i.width, off))
     )
 }

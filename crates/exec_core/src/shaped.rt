@@ -1,4 +1,4 @@
-// Rows by their shapes. The shape of an instruction leads to its register by one jump, and says where its other operand is.
+// Rows by their shapes. The shape of an instruction leads to its registers by one jump, and says where its other operand is.
 ghost use Rattle.std.specs.Prelude.{◌≡◌, ◌<◌, ◌≤◌, ◌%◌, ◌⊎◌, ℕ, IsTrue, Ok};
 ghost use Rattle.cpu_values.specs.Word.{IsWidth};
 ghost use Rattle.exec_core.specs.Shaped.{HasOperands};
@@ -54,21 +54,18 @@ pub(crate) use at_shape;
 // What the second operand of a shape gives that isn't in memory; nothing is 0. `known` is the shape as a constant, and `width` its width.
 #[inline(always)]
 #[tactic(auto, unfolding(insn_plan::specs::Operands::source, insn_plan::specs::Act::value_of))]
-fn second_number(m: &Machine, i: &Insn, shape: usize, known: u8, width: u8) -> u32
+fn second_number(m: &Machine, i: &Insn, shape: usize, known: u16, width: u8) -> u32
     requires shape { HasShape shape i.now }
     requires known { known ≡ shape }
-    requires some { (known < 72) ⊎ (96 ≤ known) }
-    requires few { known < 126 }
+    requires some { (known < 240) ⊎ (264 ≤ known) }
+    requires few { known < 294 }
     requires width { shape_width known ≡ width }
     ensures { (size : ℕ) → value_of m.now.world (source m.now.world.regs i.now.addr32 size i.now.second) ≡ Ok result }
 {
     match known {
-        0..=23 => match &i.second {
-            Operand::Reg { width: _, number } => register(m.registers(), width, *number % 8),
-            _ => unreachable!(),
-        },
-        96..=119 => register(m.registers(), width, known % 8),
-        24..=47 | 120..=122 => match &i.second {
+        0..=191 => register(m.registers(), width, (known / 24) as u8),
+        264..=287 => register(m.registers(), width, (known % 8) as u8),
+        192..=215 | 288..=290 => match &i.second {
             Operand::Imm(v) => *v,
             _ => unreachable!(),
         },
@@ -88,7 +85,7 @@ fn run_on_register_with<const W: u8, R: ShapedRow<W>>(
 ) -> Result<(), Raised>
     requires wide { IsWidth W }
     requires shape { HasShape shape i.now }
-    requires some { shape < 96 }
+    requires some { shape < 264 }
     requires width { shape_width shape ≡ W }
     requires number { n ≡ shape % 8 }
     requires second { value_of m.old.world (source m.old.world.regs i.now.addr32 R.SECOND_WIDTH i.now.second) ≡ Ok b }
@@ -105,17 +102,17 @@ fn run_on_register<const W: u8, R: ShapedRow<W>>(
     m: &mut Machine,
     i: &Insn,
     shape: usize,
-    known: u8,
+    known: u16,
 ) -> Result<(), Raised>
     requires wide { IsWidth W }
     requires shape { HasShape shape i.now }
     requires known { known ≡ shape }
-    requires some { known < 72 }
+    requires some { known < 240 }
     requires width { shape_width known ≡ W }
     ensures { CarriesOut m.old m.new result (R.plan row m.old.world i.now) }
 {
     let b = second_number(m, i, shape, known, W);
-    run_on_register_with(row, m, i, shape, known % 8, b)
+    run_on_register_with(row, m, i, shape, (known % 8) as u8, b)
 }
 
 // The row on the register of a shape whose second operand is in memory. It is read before the jump to the register.
@@ -129,7 +126,7 @@ fn run_from_memory<const W: u8, R: ShapedRow<W>>(
     requires good { IsTrue (is_width i.now.width) }
     requires wide { IsWidth W }
     requires shape { HasShape shape i.now }
-    requires some { shape < 96 }
+    requires some { shape < 264 }
     requires width { shape_width shape ≡ W }
     ensures { CarriesOut m.old m.new result (R.plan row m.old.world i.now) }
 {
@@ -169,14 +166,14 @@ fn run_on_memory<const W: u8, R: ShapedRow<W>>(
     m: &mut Machine,
     i: &Insn,
     shape: usize,
-    known: u8,
+    known: u16,
 ) -> Result<(), Raised>
     requires good { IsTrue (is_width i.now.width) }
     requires wide { IsWidth W }
     requires shape { HasShape shape i.now }
     requires known { known ≡ shape }
-    requires some { 96 ≤ known }
-    requires few { known < 126 }
+    requires some { 264 ≤ known }
+    requires few { known < 294 }
     requires width { shape_width known ≡ W }
     ensures { CarriesOut m.old m.new result (R.plan row m.old.world i.now) }
 {
@@ -199,17 +196,17 @@ fn run_with_memory<R: ShapedRow<8> + ShapedRow<16> + ShapedRow<32>>(
 {
     at_shape!(
         shape, known,
-        72 73 74 75 76 77 78 79 => run_from_memory::<8, R>(row, m, i, shape),
-        80 81 82 83 84 85 86 87 => run_from_memory::<16, R>(row, m, i, shape),
-        88 89 90 91 92 93 94 95 => run_from_memory::<32, R>(row, m, i, shape),
-        96 97 98 99 100 101 102 103 120 123 => run_on_memory::<8, R>(row, m, i, shape, known),
-        104 105 106 107 108 109 110 111 121 124 => run_on_memory::<16, R>(row, m, i, shape, known),
-        112 113 114 115 116 117 118 119 122 125 => run_on_memory::<32, R>(row, m, i, shape, known),
+        240 241 242 243 244 245 246 247 => run_from_memory::<8, R>(row, m, i, shape),
+        248 249 250 251 252 253 254 255 => run_from_memory::<16, R>(row, m, i, shape),
+        256 257 258 259 260 261 262 263 => run_from_memory::<32, R>(row, m, i, shape),
+        264 265 266 267 268 269 270 271 288 291 => run_on_memory::<8, R>(row, m, i, shape, known),
+        272 273 274 275 276 277 278 279 289 292 => run_on_memory::<16, R>(row, m, i, shape, known),
+        280 281 282 283 284 285 286 287 290 293 => run_on_memory::<32, R>(row, m, i, shape, known),
         _ => run_row(row, m, i)
     )
 }
 
-/// Carries out an instruction as `run_row` does. Its shape leads to its register; it is as wide as a pointer, so that the jump by it needs
+/// Carries out an instruction as `run_row` does. Its shape leads to its registers; it is as wide as a pointer, so that the jump by it needs
 /// no conversion. Source: own.
 #[inline(never)]
 pub(crate) fn run_shaped<R: ShapedRow<8> + ShapedRow<16> + ShapedRow<32>>(
@@ -224,9 +221,15 @@ pub(crate) fn run_shaped<R: ShapedRow<8> + ShapedRow<16> + ShapedRow<32>>(
 {
     at_shape!(
         shape, known,
-        0 1 2 3 4 5 6 7 24 25 26 27 28 29 30 31 48 49 50 51 52 53 54 55 => run_on_register::<8, R>(row, m, i, shape, known),
-        8 9 10 11 12 13 14 15 32 33 34 35 36 37 38 39 56 57 58 59 60 61 62 63 => run_on_register::<16, R>(row, m, i, shape, known),
-        16 17 18 19 20 21 22 23 40 41 42 43 44 45 46 47 64 65 66 67 68 69 70 71 => run_on_register::<32, R>(row, m, i, shape, known),
+        0 1 2 3 4 5 6 7 24 25 26 27 28 29 30 31 48 49 50 51 52 53 54 55 72 73 74 75 76 77 78 79 96 97 98 99 100 101 102 103 120 121 122 123
+            124 125 126 127 144 145 146 147 148 149 150 151 168 169 170 171 172 173 174 175 192 193 194 195 196 197 198 199 216 217 218 219
+            220 221 222 223 => run_on_register::<8, R>(row, m, i, shape, known),
+        8 9 10 11 12 13 14 15 32 33 34 35 36 37 38 39 56 57 58 59 60 61 62 63 80 81 82 83 84 85 86 87 104 105 106 107 108 109 110 111 128
+            129 130 131 132 133 134 135 152 153 154 155 156 157 158 159 176 177 178 179 180 181 182 183 200 201 202 203 204 205 206 207 224
+            225 226 227 228 229 230 231 => run_on_register::<16, R>(row, m, i, shape, known),
+        16 17 18 19 20 21 22 23 40 41 42 43 44 45 46 47 64 65 66 67 68 69 70 71 88 89 90 91 92 93 94 95 112 113 114 115 116 117 118 119 136
+            137 138 139 140 141 142 143 160 161 162 163 164 165 166 167 184 185 186 187 188 189 190 191 208 209 210 211 212 213 214 215 232
+            233 234 235 236 237 238 239 => run_on_register::<32, R>(row, m, i, shape, known),
         _ => run_with_memory(row, m, i, shape)
     )
 }
@@ -246,9 +249,9 @@ pub(crate) fn run_shift<R: ShapedRow<8> + ShapedRow<16> + ShapedRow<32>>(
 {
     at_shape!(
         shape, known,
-        24 25 26 27 28 29 30 31 => run_on_register::<8, R>(row, m, i, shape, known),
-        32 33 34 35 36 37 38 39 => run_on_register::<16, R>(row, m, i, shape, known),
-        40 41 42 43 44 45 46 47 => run_on_register::<32, R>(row, m, i, shape, known),
+        192 193 194 195 196 197 198 199 => run_on_register::<8, R>(row, m, i, shape, known),
+        200 201 202 203 204 205 206 207 => run_on_register::<16, R>(row, m, i, shape, known),
+        208 209 210 211 212 213 214 215 => run_on_register::<32, R>(row, m, i, shape, known),
         _ => run_with_memory(row, m, i, shape)
     )
 }

@@ -66,16 +66,16 @@ fn push_register<const W: u8>(
     m: &mut Machine,
     i: &Insn,
     shape: usize,
-    known: u8,
+    known: u16,
 ) -> Result<(), Raised>
     requires good { IsTrue (is_width i.now.width) }
     requires shape { HasShape shape i.now }
     requires known { known ≡ shape }
-    requires some { known < 96 }
+    requires some { known < 264 }
     requires width { shape_width known ≡ W }
     ensures { CarriesOut m.old m.new result (push m.old.world i.now) }
 {
-    let v = register(m.registers(), W, known % 8);
+    let v = register(m.registers(), W, (known % 8) as u8);
     push_value::<W>(m, i, v)
 }
 
@@ -101,10 +101,10 @@ pub(crate) fn run_push(m: &mut Machine, i: &Insn, shape: usize) -> Result<(), Ra
 {
     at_shape!(
         shape, known,
-        56 57 58 59 60 61 62 63 => push_register::<16>(m, i, shape, known),
-        64 65 66 67 68 69 70 71 => push_register::<32>(m, i, shape, known),
-        124 => push_memory::<16>(m, i),
-        125 => push_memory::<32>(m, i),
+        224 225 226 227 228 229 230 231 => push_register::<16>(m, i, shape, known),
+        232 233 234 235 236 237 238 239 => push_register::<32>(m, i, shape, known),
+        292 => push_memory::<16>(m, i),
+        293 => push_memory::<32>(m, i),
         _ => run_row(Push, m, i)
     )
 }
@@ -159,7 +159,7 @@ impl InsnRow for Pop {
 fn pop_register<const W: u8>(m: &mut Machine, i: &Insn, shape: usize) -> Result<(), Raised>
     requires good { IsTrue (is_width i.now.width) }
     requires shape { HasShape shape i.now }
-    requires some { shape < 96 }
+    requires some { shape < 264 }
     requires width { shape_width shape ≡ W }
     ensures { CarriesOut m.old m.new result (pop m.old.world i.now) }
 {
@@ -180,8 +180,8 @@ pub(crate) fn run_pop(m: &mut Machine, i: &Insn, shape: usize) -> Result<(), Rai
     ensures { CarriesOut m.old m.new result (pop m.old.world i.now) }
 {
     match shape {
-        56..=63 => pop_register::<16>(m, i, shape),
-        64..=71 => pop_register::<32>(m, i, shape),
+        224..=231 => pop_register::<16>(m, i, shape),
+        232..=239 => pop_register::<32>(m, i, shape),
         _ => run_row(Pop, m, i),
     }
 }

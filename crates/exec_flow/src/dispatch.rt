@@ -1,6 +1,6 @@
 // The instructions of this crate, and what each of them does.
 ghost use Rattle.std.specs.Prelude.{IsTrue};
-ghost use Rattle.exec_flow.specs.Dispatch.{IsFlow, flow_row};
+ghost use Rattle.exec_flow.specs.{Dispatch.{IsFlow, flow_row}, Transfers.{jcc}};
 ghost use Rattle.insn_forms.specs.Kinds.{has_good_number, is_width};
 ghost use Rattle.insn_plan.specs.Plan.{CarriesOut};
 
@@ -18,7 +18,7 @@ use crate::transfers::{Call, Jcc, Jcxz, Jmp, Loop, Ret};
 use client_world::{Event, SegReg};
 use guest_space::Machine;
 use insn_forms::{Insn, Op};
-use insn_plan::{Raised, run_row};
+use insn_plan::{InsnRow, Quick, Raised, run_row};
 
 /// Runs an instruction of this crate; EIP already points after it. An event leaves the machine as it was; a software interrupt is an event
 /// that names its number and the instruction's length.
@@ -32,6 +32,20 @@ pub fn run_flow(m: &mut Machine, insn: &Insn, len: u8) -> Result<(), Event>
     match carry_out_flow(m, insn, len) {
         Ok(()) => Ok(()),
         Err(raised) => Err(raised.event()),
+    }
+}
+
+/// Carries out Jcc, whose EIP is already after it. It is inlined into its caller. An event leaves the machine as it was.
+/// Source: 80386 Programmer's Reference Manual, ch. 17.
+#[inline(always)]
+pub fn carry_out_jcc(m: &mut Machine, insn: &Insn, condition: u8) -> Result<(), Raised>
+    requires { IsTrue (is_width insn.now.width) }
+    ensures { CarriesOut m.old m.new result (jcc m.old.world insn.now condition) }
+{
+    let row = Jcc { condition };
+    match row.carry_out::<Quick>(m, insn) {
+        Ok(()) => Ok(()),
+        Err(_) => run_row(row, m, insn),
     }
 }
 

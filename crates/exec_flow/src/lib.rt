@@ -20,7 +20,7 @@ mod stack_tops;
 mod touches;
 mod transfers;
 
-pub use dispatch::{carry_out_flow, run_flow};
+pub use dispatch::{carry_out_flow, carry_out_jcc, run_flow};
 pub use far_transfers::{can_pop_frame, code_selector, pop_far_frame, pop_frame};
 pub use interrupts::{frame_bits, push_interrupt_frame};
 pub use touches::touches_flow;

@@ -59,14 +59,14 @@ impl Start {
 }
 
 /// An instruction, its length and its shape, beside the 15 code bytes that it was decoded from. One of at most 8 bytes is found by the low
-/// word of the code alone, a longer one by all 15 bytes.
+/// word of the code alone, a longer one by all 15 bytes. The instruction is the first field, so that its address is the entry's.
 #[derive(Clone, Copy)]
 pub struct Entry {
+    pub insn: Insn,
+    pub shape: u16,
+    pub len: u8,
     words: CodeWords,
     start: Start,
-    pub insn: Insn,
-    pub len: u8,
-    pub shape: u8,
     ghost well_formed: { IsWellFormed insn },
     ghost shaped: { HasShape shape insn },
 }
