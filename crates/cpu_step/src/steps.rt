@@ -184,7 +184,6 @@ fn as_learned(answer: Result<(), Raised>) -> Learned
 }
 
 // Makes the instruction at that start of a window, where the memo lacks it or it has more than 8 bytes.
-#[cold]
 #[inline(never)]
 fn step_of_unknown(m: &mut Machine, memo: &mut Memo, window: &mut CodeWindow, from: u32) -> Learned
     requires window { IsWindow m.old window.old }
