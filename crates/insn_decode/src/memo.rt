@@ -67,6 +67,8 @@ pub struct Entry {
     pub len: u8,
     words: CodeWords,
     start: Start,
+    // With it an entry has 128 bytes, so that its address takes a shift in place of a multiplication.
+    padding: [u64; 3],
     ghost well_formed: { IsWellFormed insn },
     ghost shaped: { HasShape shape insn },
 }
@@ -86,6 +88,7 @@ impl Entry {
     const NONE: Entry = Entry {
         words: CodeWords { low: 0, high: 0 },
         start: Start::NONE,
+        padding: [0; 3],
         insn: Insn {
             op: Op::Clc,
             width: 16,
@@ -113,6 +116,7 @@ impl Entry {
                 Some(Entry {
                     words,
                     start: Start::new(words.low, len),
+                    padding: [0; 3],
                     insn,
                     len,
                     shape: insn.shape(),
