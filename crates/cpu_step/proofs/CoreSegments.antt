@@ -14,8 +14,6 @@ use Rattle.insn_plan.specs.{Registers.{register, with_register}, Stack.{with_pus
 use Rattle.cpu_step.proofs.SegmentWords.{HoldWith, LeavesWith, words_if, leaves_if, words_register, words_put, words_pushed}
 use Rattle.insn_forms.specs.declared.insn.Op.TheVariants as ops
 
--- ---- arithmetic, shifts and bits
-
 -- ---- decimal adjustment, products and quotients
 
 with_ax_words : {P : ℕ → Type 0} (r : Regs) (result : ℕ × Flags) → HoldWith P r → HoldWith P (with_ax_in r result)

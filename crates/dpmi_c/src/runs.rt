@@ -24,6 +24,7 @@ pub extern "C" fn dpmi_run(
     ensures text { result ≤ REFUSED →
         take written.new text.new ≡ (answer_of (client_of file.now keys.now pages timer) bound trace).text }
     ensures status { result ≤ REFUSED → result ≡ (answer_of (client_of file.now keys.now pages timer) bound trace).status }
+    ensures few { written.new ≤ length text.new }
     ensures nothing { (result ≤ REFUSED) ⊎ (written.new ≡ 0) }
     ensures room { result ≡ NO_ROOM → length text.new < length (answer_of (client_of file.now keys.now pages timer) bound trace).text }
     ensures known { (result ≤ REFUSED) ⊎ (result ≡ NO_ROOM) ⊎ (result ≡ NO_MEMORY) }
@@ -33,7 +34,7 @@ pub extern "C" fn dpmi_run(
 }
 
 /// Gives the states after some numbers of turns, and what the client sees at some linear addresses in each. Returns 0; 2 where the call is
-/// refused, 5 when out of memory. Source: own.
+/// refused, 5 when out of memory; then rows and memory are as before. Source: own.
 #[unsafe(no_mangle)]
 pub extern "C" fn dpmi_states(
     alloc: Global,
@@ -53,6 +54,7 @@ pub extern "C" fn dpmi_states(
         IsStatesCall (client_of file.now keys.now pages timer) turns.now (length places.now) (length rows.old) (length memory.old) }
     ensures refused { result ≡ REFUSED →
         IsRefusedStates (client_of file.now keys.now pages timer) turns.now (length places.now) (length rows.old) (length memory.old) }
+    ensures nothing { (result ≡ DONE) ⊎ ((rows.new ≡ rows.old) × (memory.new ≡ memory.old)) }
 {
     let client = client(file, keys, pages, timer);
     states_after(alloc, client, turns, places, rows, memory)

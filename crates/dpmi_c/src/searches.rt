@@ -1,6 +1,6 @@
 // The stops of a run.
-ghost use Rattle.std.specs.Prelude.{◌≡◌, ◌≤◌, ◌+◌, ◌-◌, ◌⊎◌, length, take, None, IsSome};
-ghost use Rattle.dpmi_calls.specs.{Clients.{client_of}, Turns.{host_of}, Stops.{IsRefusedSearch, IsSearch, last_of, stop_or_none}};
+ghost use Rattle.std.specs.Prelude.{◌≡◌, ◌≤◌, ◌<◌, ◌+◌, ◌-◌, ◌⊎◌, ℕ, length, take, None, IsSome};
+ghost use Rattle.dpmi_calls.specs.{Clients.{client_of}, Turns.{host_of}, Stops.{GoesOn, IsRefusedSearch, IsSearch, last_of, stop_or_none}};
 ghost use Rattle.dpmi_calls.specs.{Stops.{stops_of, wanted_of}, declared.outcome.TheConstants.{DONE, NO_MEMORY, REFUSED}};
 
 use crate::given::{client, wanted};
@@ -31,6 +31,9 @@ pub extern "C" fn dpmi_stops(
         (reached.new + 1 - from) }
     ensures whole { result ≡ DONE → (reached.new ≡ to) ⊎ (made.new ≡ length stops.new)
         ⊎ IsSome (host_of (client_of file.now keys.now pages timer) reached.new).exit }
+    ensures goes_on { result ≡ DONE → (n : ℕ) → from ≤ n + 1 → n < reached.new →
+        GoesOn (wanted_of places.now bytes.now stay_at stay_size) (host_of (client_of file.now keys.now pages timer)) (from - 1)
+        (length stops.new) n }
     ensures few { made.new ≤ length stops.new }
     ensures nothing { (result ≡ DONE) ⊎ ((made.new ≡ 0) × (reached.new ≡ 0)) }
     ensures reached { result ≡ DONE → (from ≤ reached.new + 1) × (reached.new ≤ to) }
@@ -67,6 +70,8 @@ pub extern "C" fn dpmi_last_stop(
         ≡ stop_or_none (last_of (wanted_of places.now bytes.now stay_at stay_size)
         (host_of (client_of file.now keys.now pages timer)) (from - 1) (reached.new + 1 - from)) }
     ensures whole { result ≡ DONE → (reached.new ≡ to) ⊎ IsSome (host_of (client_of file.now keys.now pages timer) reached.new).exit }
+    ensures goes_on { result ≡ DONE → (n : ℕ) → from ≤ n + 1 → n < reached.new →
+        (host_of (client_of file.now keys.now pages timer) n).exit ≡ None }
     ensures nothing { (result ≡ DONE) ⊎ ((stop.new ≡ stop_or_none None) × (reached.new ≡ 0)) }
     ensures reached { result ≡ DONE → (from ≤ reached.new + 1) × (reached.new ≤ to) }
     ensures known { (result ≡ DONE) ⊎ (result ≡ REFUSED) ⊎ (result ≡ NO_MEMORY) }

@@ -1,7 +1,8 @@
--- Lists of stops, and the first byte that changed.
-use Rattle.std.proofs.Common.{arith, ◌≡◌, ◌≤◌, ◌+◌, ◌-◌, ◌++◌, ◌∷◌, [], ℕ, Bool, true, false, List, map, refl, sym, ◌∙◌, ap, None, Some}
-use Rattle.std.proofs.{Common.{add-one}, Math.Nat.{sub_self}, lemmas.Iterator.Adapters.{position_from-zero}}
-use Rattle.std.specs.{Prelude.{nat_eq, not, if◌then◌else◌}, List.{position, position_from}, declared.option.Option.{Option}}
+-- Lists of stops, the first byte that changed, and the turns of a search.
+use Rattle.std.proofs.Common.{arith, ◌≡◌, ◌≤◌, ◌<◌, ◌+◌, ◌-◌, ◌++◌, ◌∷◌, [], ℕ, Bool, true, false, List, map, refl, sym, subst, inl}
+use Rattle.std.proofs.Common.{inr, ◌∙◌, ap, None, Some}
+use Rattle.std.proofs.{Common.{add-one}, Math.Nat.{eq-or-lt_of_le, sub_self}, lemmas.Iterator.Adapters.{position_from-zero}}
+use Rattle.std.specs.{Prelude.{◌⊎◌, nat_eq, not, if◌then◌else◌}, List.{position, position_from}, declared.option.Option.{Option}}
 use Rattle.client_world.specs.World.{HostWorld, World}
 use Rattle.dpmi_calls.specs.{Memory.{seen}, Stops.{WantedStops, first_change, first_place, is_changed, is_outside, last_of, reason_at}}
 use Rattle.dpmi_calls.specs.{Stops.{reason_of, last_by, stops_by, stops_of}, declared.stops.Stop.{Stop}, declared.wanted.Reason.{Reason}}
@@ -82,3 +83,14 @@ last_noted s host start done so_far after le is put =
     put ∙ ap (λ (o : Option Stop). last_by o (done + 1) (reason_at s host done)) is
     ∙ sym (ap (λ n. last_by (last_of s host start (done - start)) (n + 1) (reason_at s host n)) (at start done le))
     ∙ one_more_last s host start (done - start) ∙ ap (last_of s host start) (next start done le)
+
+-- ---- the turns after which the search goes on
+
+-- what holds of each turn before one and of that one holds of each turn before the next
+pub one_more_turn : (P : ℕ → Type 0) (start done : ℕ) → P done → ((n : ℕ) → start ≤ n → n < done → P n) →
+    (n : ℕ) → start ≤ n → n < done + 1 → P n
+one_more_turn P start done here old n le lt = by (eq-or-lt_of_le (omega (arith, lt)))
+  where
+    by : (n ≡ done) ⊎ (n < done) → P n
+    by (inl same) = subst P (sym same) here
+    by (inr less) = old n le less

@@ -1,5 +1,5 @@
 -- The client of a call: why it is refused, and the text that `dpmi run` writes of it. Source: own.
-use Rattle.std.specs.Prelude.{◌≡◌, ℕ, List, [], length, Bool, true, ◌&&◌, not, nat_eq, nat_le, nat_lt, if◌then◌else◌, None, Some}
+use Rattle.std.specs.Prelude.{◌≡◌, ℕ, List, length, Bool, true, ◌&&◌, not, nat_eq, nat_le, nat_lt, if◌then◌else◌, None, Some}
 use Rattle.std.specs.{Prelude.{option_map}, declared.option.Option.{Option}}
 use Rattle.client_world.specs.declared.limits.TheConstants.{GREATEST_TIMER, MAX_FILE, MAX_KEYS, MAX_PAGES, MAX_STEPS, MAX_TRACE}
 use Rattle.client_world.specs.World.{HostWorld}
@@ -29,7 +29,8 @@ given c = client_of c.file.now c.keys.now c.pages c.timer
 abbrev pub timer_given : ℕ → Option ℕ
 timer_given every = if nat_eq every 0 then None else Some every
 
--- the numbers are in the ranges of the command's options, for a run of that many turns whose trace keeps that many lines
+-- the numbers are in the ranges of the command's options, for a run of that many turns whose trace keeps that many lines; the bound may
+-- also be 0, which the command refuses
 abbrev pub numbers_fit : ClientGiven → ℕ → ℕ → Bool
 numbers_fit c bound trace =
     nat_lt 0 c.pages && nat_le c.pages MAX_PAGES && nat_le c.timer GREATEST_TIMER && nat_le bound MAX_STEPS && nat_le trace MAX_TRACE
@@ -57,10 +58,10 @@ verdict_on c bound trace = elim (refusal_of c bound trace) [
 abbrev pub answer_of : ClientGiven → ℕ → ℕ → Answer
 answer_of c bound trace = answer_to (verdict_on c bound trace)
 
--- what the words of the command mean that give the same
-abbrev pub run_of : ClientGiven → ℕ → ℕ → RunMeaning
-run_of c bound trace = record {
-  file = [];
+-- what the words of the command mean that give the same, with a file of that name; no words mean a bound of 0
+abbrev pub run_of : ClientGiven → List ℕ → ℕ → ℕ → RunMeaning
+run_of c name bound trace = record {
+  file = name;
   keys = Pressed c.keys;
   bound = bound;
   pages = c.pages;
@@ -68,8 +69,8 @@ run_of c bound trace = record {
   timer = timer_given c.timer;
 }
 
--- where the numbers fit, it is the verdict of the command on a file of these bytes
+-- where the numbers fit, it is the verdict of the command on a file of these bytes, whatever its name
 abbrev pub IsVerdictOfCommand : ClientGiven → ℕ → ℕ → Type 0
 IsVerdictOfCommand c bound trace =
-    numbers_fit c bound trace ≡ true → run_verdict (run_of c bound trace) (λ name. Some c.file) (λ name. Some c.file)
-    ≡ Some (verdict_on c bound trace)
+    (name : List ℕ) → numbers_fit c bound trace ≡ true →
+    run_verdict (run_of c name bound trace) (λ path. Some c.file) (λ path. Some c.file) ≡ Some (verdict_on c bound trace)

@@ -110,7 +110,7 @@ Descends turns = (i : ℕ) × (i + 1 < length turns) × (slice_index turns (i + 
 abbrev pub PassesMost : List ℕ → Type 0
 PassesMost turns = (i : ℕ) × (i < length turns) × (MAX_STEPS < slice_index turns i)
 
--- neither is so
+-- no number of turns is below the one before it or above the greatest
 abbrev pub AreInOrder : List ℕ → Type 0
 AreInOrder turns = ((i : ℕ) → i + 1 < length turns → slice_index turns i ≤ slice_index turns (i + 1))
     × ((i : ℕ) → i < length turns → slice_index turns i ≤ MAX_STEPS)
@@ -122,7 +122,7 @@ pub record IsStatesCall (c : ClientGiven) (turns : List ℕ) (places rows_length
   pub order : AreInOrder turns
   pub client : refusal_of c 0 0 ≡ None
 
--- and why they are not
+-- why no states are given: a length isn't as it should be, the turns aren't in order, or the client is refused
 abbrev pub IsRefusedStates : ClientGiven → List ℕ → ℕ → ℕ → ℕ → Type 0
 IsRefusedStates c turns places rows memory =
     (rows ≢ length turns) ⊎ (memory ≢ length turns * places) ⊎ Descends turns ⊎ PassesMost turns ⊎ IsSome (refusal_of c 0 0)

@@ -87,6 +87,12 @@ unfoldable pub stops_of : WantedStops → (ℕ → HostWorld) → ℕ → ℕ �
 stops_of s host done zero = []
 stops_of s host done (suc n) = stops_of s host done n ++ stops_by (done + n + 1) (reason_at s host (done + n))
 
+-- the search goes on after that many turns, of which the first `done` had no part in it: the client has not ended, and there is room for
+-- one more stop
+pub record GoesOn (s : WantedStops) (host : ℕ → HostWorld) (done room turns : ℕ) : Type 0 where
+  pub no_exit : (host turns).exit ≡ None
+  pub space : length (stops_of s host done (turns - done)) < room
+
 -- the last stop up to that turn, by the last one before it
 abbrev pub last_by : Option Stop → ℕ → Option Reason → Option Stop
 last_by before turn None = before
@@ -114,7 +120,7 @@ pub record IsSearch (c : ClientGiven) (from to : ℕ) (s : WantedStops) : Type 0
   pub few : IsFew s
   pub client : refusal_of c to 0 ≡ None
 
--- and why it is not
+-- why no search is made: its turns are none, more is looked for than may be, or the client is refused
 abbrev pub IsRefusedSearch : ClientGiven → ℕ → ℕ → WantedStops → Type 0
 IsRefusedSearch c from to s =
     (from ≡ 0) ⊎ (to < from) ⊎ (MOST_WANTED < length s.places) ⊎ (MOST_WANTED < length s.bytes) ⊎ IsSome (refusal_of c to 0)

@@ -19,7 +19,7 @@ pub struct Client<'a> {
     pub timer: u32,
 }
 
-// Whether the numbers are in the ranges of the command's options.
+// Whether the numbers are in the ranges of the command's options, or the bound is 0.
 fn numbers_fit(client: &Client<'_>, bound: u32, trace: u32) -> bool
     ensures { result ≡ numbers_fit (given client.now) bound trace }
 {

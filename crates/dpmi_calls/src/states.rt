@@ -12,34 +12,43 @@ use crate::state::{State, state_of};
 use client_world::limits::MAX_STEPS;
 use std::alloc::Global;
 
-// Notes the states after these turns, and the bytes at these places in each of them. Returns false where the turns go down.
+// Whether numbers of turns don't go down, and none is above the greatest.
+fn are_in_order(turns: &[u32]) -> bool
+    ensures taken { result ≡ true → AreInOrder turns.now }
+    ensures refused { result ≡ false → Descends turns.now ⊎ PassesMost turns.now }
+{
+    let all = turns.len();
+    for i in 0..all {
+        if turns[i] > MAX_STEPS {
+            return false;
+        }
+        if i > 0 && turns[i] < turns[i - 1] {
+            return false;
+        }
+    }
+    true
+}
+
+// Notes the states after these turns, and the bytes at these places in each of them.
 fn note_states(
     run: &mut ClientRun<'_>,
     turns: &[u32],
     places: &[u32],
     rows: &mut [State],
     memory: &mut [u16],
-) -> bool
+)
     requires run { IsRun run.old }
     requires start { run.old.turns ≡ 0 }
+    requires order { AreInOrder turns.now }
     requires rows { length rows.old ≡ length turns.now }
     requires memory { length memory.old ≡ length turns.now * length places.now }
-    ensures rows { result ≡ true → AreStates (host_of (given run.old.client)) turns.now rows.new }
-    ensures memory { result ≡ true → AreSeen (host_of (given run.old.client)) turns.now places.now memory.new }
-    ensures taken { result ≡ true → AreInOrder turns.now }
-    ensures refused { result ≡ false → Descends turns.now ⊎ PassesMost turns.now }
+    ensures rows { AreStates (host_of (given run.old.client)) turns.now rows.new }
+    ensures memory { AreSeen (host_of (given run.old.client)) turns.now places.now memory.new }
 {
     let count = places.len();
     let all = turns.len();
     for i in 0..all {
-        let turn = turns[i];
-        if turn < run.turns {
-            return false;
-        }
-        if turn > MAX_STEPS {
-            return false;
-        }
-        run.advance_to(turn);
+        run.advance_to(turns[i]);
         rows[i] = state_of(&run.host);
         copy_seen(
             run.host.machine(),
@@ -47,7 +56,6 @@ fn note_states(
             &mut memory[i * count..(i + 1) * count],
         );
     }
-    true
 }
 
 // Whether a length is the product of two others.
@@ -63,8 +71,8 @@ fn is_product(length: usize, rows: usize, columns: usize) -> bool
 /// Gives the states of a client after some numbers of turns, which don't go down and are at most 1,000,000,000, each in a row; and for
 /// each state what the client sees at each of the linear addresses in `places`: of row `i` and place `k` at `i * places.len() + k` of
 /// `memory`. After the client's end nothing changes any more. Returns 0; or 2 where the client is refused, the turns aren't as they should
-/// be, there are more or fewer rows than turns, or the memory is of another size; or 5 when out of memory. Then rows and memory may hold
-/// anything. Source: own.
+/// be, there are more or fewer rows than turns, or the memory is of another size; or 5 when out of memory. Then rows and memory are as
+/// before. Source: own.
 pub fn states_after(
     alloc: Global,
     client: Client<'_>,
@@ -80,17 +88,21 @@ pub fn states_after(
         IsStatesCall (given client.entry) turns.now (length places.now) (length rows.old) (length memory.old) }
     ensures refused { result ≡ REFUSED →
         IsRefusedStates (given client.entry) turns.now (length places.now) (length rows.old) (length memory.old) }
+    ensures nothing { (result ≡ DONE) ⊎ ((rows.new ≡ rows.old) × (memory.new ≡ memory.old)) }
 {
-    if rows.len() != turns.len() || !is_product(memory.len(), turns.len(), places.len()) {
+    if rows.len() != turns.len() {
+        return REFUSED;
+    }
+    if !is_product(memory.len(), turns.len(), places.len()) {
+        return REFUSED;
+    }
+    if !are_in_order(turns) {
         return REFUSED;
     }
     match ClientRun::start(alloc, client, 0) {
         Ok(Ok(mut run)) => {
-            if note_states(&mut run, turns, places, rows, memory) {
-                DONE
-            } else {
-                REFUSED
-            }
+            note_states(&mut run, turns, places, rows, memory);
+            DONE
         }
         Ok(Err(_)) => REFUSED,
         Err(_) => NO_MEMORY,

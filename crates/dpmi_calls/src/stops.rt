@@ -1,8 +1,8 @@
 // The turns of a run at which what is looked for is found.
-ghost use Rattle.std.specs.Prelude.{◌≡◌, ◌≤◌, ◌<◌, ◌+◌, ◌-◌, ◌++◌, ◌⊎◌, length, take, map, None, IsSome, IfOk, IfErr, OnOk};
+ghost use Rattle.std.specs.Prelude.{◌≡◌, ◌≤◌, ◌<◌, ◌+◌, ◌-◌, ◌++◌, ◌⊎◌, ℕ, length, take, map, None, IsSome, IfOk, IfErr, OnOk};
 ghost use Rattle.client_world.specs.declared.limits.TheConstants.{MAX_STEPS};
 ghost use Rattle.dpmi_calls.specs.{Clients.{given}, Memory.{seen}, Runs.{IsRun}, Turns.{host_of}, Stops.{IsFew, IsRefusedSearch, IsSearch}};
-ghost use Rattle.dpmi_calls.specs.Stops.{last_by, last_of, reason_at, stop_at, stop_or_none, stops_by, stops_of, wanted_in};
+ghost use Rattle.dpmi_calls.specs.Stops.{GoesOn, last_by, last_of, reason_at, stop_at, stop_or_none, stops_by, stops_of, wanted_in};
 ghost use Rattle.dpmi_calls.specs.declared.outcome.TheConstants.{DONE, NO_MEMORY, REFUSED};
 
 use crate::memory::copy_seen;
@@ -127,6 +127,8 @@ fn find_first(
     ensures stops { take result stops.new
         ≡ stops_of (wanted_in wanted.now) (host_of (given run.old.client)) run.old.turns (run.new.turns - run.old.turns) }
     ensures whole { (run.new.turns ≡ to) ⊎ (result ≡ length stops.new) ⊎ IsSome run.new.host.world.exit }
+    ensures goes_on { (n : ℕ) → run.old.turns ≤ n → n < run.new.turns →
+        GoesOn (wanted_in wanted.now) (host_of (given run.old.client)) run.old.turns (length stops.new) n }
 {
     let room = stops.len();
     let mut made = 0;
@@ -182,6 +184,7 @@ fn find_last(
     ensures last { result
         ≡ last_of (wanted_in wanted.now) (host_of (given run.old.client)) run.old.turns (run.new.turns - run.old.turns) }
     ensures whole { (run.new.turns ≡ to) ⊎ IsSome run.new.host.world.exit }
+    ensures goes_on { (n : ℕ) → run.old.turns ≤ n → n < run.new.turns → (host_of (given run.old.client) n).exit ≡ None }
 {
     let mut last = None;
     for done in run.turns..to {
@@ -229,7 +232,8 @@ fn start_search<'a>(
 }
 
 /// Gives the stops of a client's turns from `from` to `to`, the first turn being 1, in order, as many as there are `stops`; `made` counts
-/// them. `reached` is the last turn that was made: `to`, or an earlier one where there was room for no more stops or the client ended.
+/// them. `reached` is the last turn that was made: `to`, or an earlier one after which there was room for no more stops or the client had
+/// ended; `from` - 1 where that was so before.
 /// Returns 0; or 2 where the client is refused, `from` is 0 or above `to`, `to` is above 1,000,000,000, or more than 65,536 places or bytes
 /// are looked for; or 5 when out of memory; then `made` and `reached` are 0. Source: own.
 pub fn first_stops(
@@ -246,6 +250,8 @@ pub fn first_stops(
         take made.new stops.new ≡ stops_of (wanted_in wanted.now) (host_of (given client.entry)) (from - 1) (reached.new + 1 - from) }
     ensures whole { result ≡ DONE →
         (reached.new ≡ to) ⊎ (made.new ≡ length stops.new) ⊎ IsSome (host_of (given client.entry) reached.new).exit }
+    ensures goes_on { result ≡ DONE → (n : ℕ) → from ≤ n + 1 → n < reached.new →
+        GoesOn (wanted_in wanted.now) (host_of (given client.entry)) (from - 1) (length stops.new) n }
     ensures few { made.new ≤ length stops.new }
     ensures nothing { (result ≡ DONE) ⊎ ((made.new ≡ 0) × (reached.new ≡ 0)) }
     ensures reached { result ≡ DONE → (from ≤ reached.new + 1) × (reached.new ≤ to) }
@@ -266,7 +272,7 @@ pub fn first_stops(
 }
 
 /// Gives the last stop of a client's turns from `from` to `to`, the first turn being 1; its `turn` is 0 where there is none. `reached` is
-/// the last turn that was made: `to`, or an earlier one at which the client ended. Returns as `first_stops` does; with 2 and 5 there is no
+/// the last turn that was made: `to`, or an earlier one after which the client had ended, `from` - 1 where it had before. Returns as `first_stops` does; with 2 and 5 there is no
 /// stop, and `reached` is 0. Source: own.
 pub fn last_stop(
     alloc: Global,
@@ -280,6 +286,7 @@ pub fn last_stop(
     ensures last { result ≡ DONE →
         stop.new ≡ stop_or_none (last_of (wanted_in wanted.now) (host_of (given client.entry)) (from - 1) (reached.new + 1 - from)) }
     ensures whole { result ≡ DONE → (reached.new ≡ to) ⊎ IsSome (host_of (given client.entry) reached.new).exit }
+    ensures goes_on { result ≡ DONE → (n : ℕ) → from ≤ n + 1 → n < reached.new → (host_of (given client.entry) n).exit ≡ None }
     ensures nothing { (result ≡ DONE) ⊎ ((stop.new ≡ stop_or_none None) × (reached.new ≡ 0)) }
     ensures reached { result ≡ DONE → (from ≤ reached.new + 1) × (reached.new ≤ to) }
     ensures known { (result ≡ DONE) ⊎ (result ≡ REFUSED) ⊎ (result ≡ NO_MEMORY) }

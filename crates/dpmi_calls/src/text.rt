@@ -67,7 +67,8 @@ fn answer_client(
 }
 
 /// Writes what the command `dpmi run` writes of a client, whose run has at most `bound` turns, up to 1,000,000,000, and whose trace keeps
-/// `trace` lines, up to 10,000: they are the first `written` bytes of `text`. Returns the command's status: 0 where the client ended
+/// `trace` lines, up to 10,000: they are the first `written` bytes of `text`. A bound of 0, which the command refuses, gives the report
+/// before the first turn. Returns the command's status: 0 where the client ended
 /// itself, 1 where its run ended otherwise, 2 where it is refused, and then the text is the line of the refusal. Or 4 where the text
 /// is longer than `text`, 5 when out of memory; `written` is 0 then. Source: own.
 #[tactic(auto, using(crate::proofs::Texts::same_bytes, crate::proofs::Texts::longer, crate::proofs::Texts::front_is))]
@@ -81,6 +82,7 @@ pub fn write_text(
 ) -> u8
     ensures text { result ≤ REFUSED → take written.new text.new ≡ (answer_of (given client.now) bound trace).text }
     ensures status { result ≤ REFUSED → result ≡ (answer_of (given client.now) bound trace).status }
+    ensures few { written.new ≤ length text.new }
     ensures nothing { (result ≤ REFUSED) ⊎ (written.new ≡ 0) }
     ensures room { result ≡ NO_ROOM → length text.new < length (answer_of (given client.now) bound trace).text }
     ensures known { (result ≤ REFUSED) ⊎ (result ≡ NO_ROOM) ⊎ (result ≡ NO_MEMORY) }

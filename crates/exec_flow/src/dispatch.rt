@@ -61,6 +61,7 @@ pub fn carry_out_flow(m: &mut Machine, insn: &Insn, len: u8) -> Result<(), Raise
     ensures { CarriesOut m.old m.new result (flow_row insn.now.op m.old.world insn.now len) }
 {
     match insn.op {
+        // A step runs Jcc before it comes here.
         Op::Jcc(condition) => run_row(Jcc { condition }, m, insn),
         Op::Jmp => run_row(Jmp, m, insn),
         Op::Call => run_row(Call, m, insn),

@@ -1,8 +1,8 @@
 -- The cache of translations: a page that is walked once is walked so at each of its bytes, and the walks of a memory stay the same where
 -- the places of linear addresses and the addresses of places do.
-use Rattle.std.proofs.Common.{◌≡◌, ℕ, zero, suc, [], ◌∷◌, ◌+◌, ◌*◌, ◌/◌, ◌%◌, ◌<◌, ◌≤◌, ◌^◌, ◌⊎◌, inl, inr, Bool, true, false}
+use Rattle.std.proofs.Common.{◌≡◌, ℕ, zero, suc, [], ◌∷◌, ◌+◌, ◌*◌, ◌/◌, ◌%◌, ◌<◌, ◌≤◌, ◌^◌, ◌⊎◌, inl, inr, Bool, true, false, ltb}
 use Rattle.std.proofs.Common.{if◌then◌else◌, List, length, slice_index_or, replicate, set, length-set, refl, ap, ◌∙◌, sym, subst, arith}
-use Rattle.std.proofs.{Common.{Result, Ok, Err}, lemmas.Bool.{cases_lt}, lemmas.List.{get_or-set_other, get_or-set_same}}
+use Rattle.std.proofs.{Common.{Result, Ok, Err}, lemmas.Bool.{cases_lt, lt-ltb}, lemmas.List.{get_or-set_other, get_or-set_same}}
 use Rattle.client_world.specs.{declared.faults.PageFault.{PageFault}, declared.host_frames.TheConstants.{PAGE_SIZE, PAGE_DIRECTORY}}
 use Rattle.client_world.specs.declared.host_frames.TheConstants.{TABLE_ENTRIES, BUDGET_FRAMES, BLOCK_TABLES, BLOCK_TABLE_FRAMES, BLOCK_ROWS}
 use Rattle.client_world.specs.declared.host_frames.TheConstants.{BLOCK_ROW_FRAMES, DESCRIPTORS}
@@ -32,9 +32,13 @@ empty_at (suc n) (suc i) low = empty_at n i (omega arith)
 empty_page : (i : ℕ) → i < 64 → (entry_at (replicate 64 empty_entry) i).page ≡ pages_in_all
 empty_page i low = ap (λ (e : CacheEntry). e.page) (empty_at 64 i low)
 
+abbrev IsFlagged : ℕ → CacheEntry → Type 0
+IsFlagged i e = e.used ≡ ltb e.page pages_in_all
+
 pub empty_warm : (b : List ℕ) → Warm b (replicate 64 empty_entry)
 empty_warm b = record {
   long = refl;
+  flag = λ i within. subst (IsFlagged i) (sym (empty_at 64 i within)) refl;
   hit = λ i within few. absurd (omega (arith, empty_page i within));
   place = λ i within few. absurd (omega (arith, empty_page i within));
 }
@@ -112,23 +116,24 @@ pub entry_hits : (b : List ℕ) (lin p : ℕ) (on : Bool) → lin < 2 ^ 32 → p
     Hit b (record { used = true; page = lin / PAGE_SIZE; frame = p / PAGE_SIZE; writable = on })
 entry_hits b lin p on small low reads writes = grind (arith, page_noted, same_page)
 
--- one entry set: what holds of each entry in use at its place
+-- one entry set: what holds of each entry at its place
 
-abbrev AllUsed : (ℕ → CacheEntry → Type 0) → List CacheEntry → Type 0
-AllUsed Q cache = (i : ℕ) → i < 64 → (entry_at cache i).page < pages_in_all → Q i (entry_at cache i)
+abbrev AllAt : (ℕ → CacheEntry → Type 0) → List CacheEntry → Type 0
+AllAt Q cache = (i : ℕ) → i < 64 → Q i (entry_at cache i)
 
-all_set : (Q : ℕ → CacheEntry → Type 0) (cache : List CacheEntry) (j : ℕ) (e : CacheEntry) → j < length cache → AllUsed Q cache → Q j e →
-    AllUsed Q (set cache j e)
+all_set : (Q : ℕ → CacheEntry → Type 0) (cache : List CacheEntry) (j : ℕ) (e : CacheEntry) → j < length cache → AllAt Q cache → Q j e →
+    AllAt Q (set cache j e)
 all_set Q cache j e low all its = grind (arith, cases_lt, get_or-set_other, get_or-set_same)
 
-pub set_warm : (b : List ℕ) (cache : List CacheEntry) (j : ℕ) (e : CacheEntry) → j < 64 → Warm b cache → Hit b e → e.page % CACHE_SIZE ≡ j →
-    Warm b (set cache j e)
-set_warm b cache j e inside warm hit place =
+pub set_warm : (b : List ℕ) (cache : List CacheEntry) (j : ℕ) (e : CacheEntry) → j < 64 → Warm b cache → e.used ≡ true → Hit b e →
+    e.page % CACHE_SIZE ≡ j → Warm b (set cache j e)
+set_warm b cache j e inside warm used hit place =
     let low : j < length cache = subst (λ (n : ℕ). j < n) (sym warm.long) inside in
     record {
       long = length-set cache j e ∙ warm.long;
-      hit = all_set (λ i x. Hit b x) cache j e low warm.hit hit;
-      place = all_set (λ i x. x.page % CACHE_SIZE ≡ i) cache j e low warm.place place;
+      flag = all_set IsFlagged cache j e low warm.flag (used ∙ sym (lt-ltb e.page pages_in_all hit.page));
+      hit = all_set (λ i x. x.page < pages_in_all → Hit b x) cache j e low warm.hit (λ few. hit);
+      place = all_set (λ i x. x.page < pages_in_all → x.page % CACHE_SIZE ≡ i) cache j e low warm.place (λ few. place);
     }
 
 -- other bytes with the same walks

@@ -1,6 +1,6 @@
 -- The cache of translations: what an entry in use says, and its place. That entries are forgotten when blocks change is own.
 -- Source: 80386 Programmer's Reference Manual, ch. 5, "Page Translation Cache".
-use Rattle.std.specs.Prelude.{◌≡◌, ℕ, ◌+◌, ◌*◌, ◌%◌, ◌<◌, Bool, true, false, List, length, Ok, Err, slice_index_or, if◌then◌else◌}
+use Rattle.std.specs.Prelude.{◌≡◌, ℕ, ◌+◌, ◌*◌, ◌%◌, ◌<◌, Bool, true, false, nat_lt, List, length, Ok, Err, slice_index_or, if◌then◌else◌}
 use Rattle.std.specs.declared.result.Result.{Result}
 use Rattle.client_world.specs.{declared.faults.PageFault.{PageFault}, declared.host_frames.TheConstants.{PAGE_SIZE, PAGE_DIRECTORY}}
 use Rattle.page_tables.specs.Walk.{fault, walked}
@@ -31,12 +31,13 @@ pub record Hit (b : List ℕ) (entry : CacheEntry) : Type 0 where
 abbrev pub empty_entry : CacheEntry
 empty_entry = record { used = false; page = pages_in_all; frame = 0; writable = false }
 
--- the entry at a place; past the end there is none
+-- the entry at a place; of one past the end nothing is said
 abbrev pub entry_at : List CacheEntry → ℕ → CacheEntry
 entry_at cache i = slice_index_or cache i (record { used = false; page = 0; frame = 0; writable = false })
 
--- so it is for each entry that is in use; and that of page p is entry p modulo the number of entries
+-- so it is for each entry in use, which is one with the number of a page; and that of page p is entry p modulo the number of entries
 pub record Warm (b : List ℕ) (cache : List CacheEntry) : Type 0 where
   pub long : length cache ≡ CACHE_SIZE
+  pub flag : (i : ℕ) → i < CACHE_SIZE → (entry_at cache i).used ≡ nat_lt (entry_at cache i).page pages_in_all
   pub hit : (i : ℕ) → i < CACHE_SIZE → (entry_at cache i).page < pages_in_all → Hit b (entry_at cache i)
   pub place : (i : ℕ) → i < CACHE_SIZE → (entry_at cache i).page < pages_in_all → (entry_at cache i).page % CACHE_SIZE ≡ i

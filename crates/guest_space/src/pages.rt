@@ -23,7 +23,7 @@ const NO_PAGE: u32 = 0x10_0000;
 
 /// Where a linear page lies in the memory: its frame, and whether it may be written. Only a page that may be read is in use, and it is at
 /// its own place: its number modulo the number of entries. An entry that isn't in use has a number that no page has, so that a look
-/// compares numbers alone.
+/// compares numbers alone; `used` says the same.
 /// Source: 80386 Programmer's Reference Manual, ch. 5, "Page Translation Cache".
 #[derive(Clone, Copy, Debug, PartialEq, Eq)]
 pub struct CacheEntry {
@@ -80,6 +80,7 @@ fn entry_of(ram: &Ram, lin: u32, at: u32) -> CacheEntry
     requires root { IsFrame ram.now PAGE_DIRECTORY }
     requires tables { TablesInside ram.now PAGE_DIRECTORY }
     requires ends { walked ram.now PAGE_DIRECTORY lin false ≡ Ok at }
+    ensures used { result.used ≡ true }
     ensures hit { Hit ram.now result }
     ensures page { result.page ≡ lin / PAGE_SIZE }
 {

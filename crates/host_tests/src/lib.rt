@@ -1,5 +1,6 @@
 //! Worked rows of the host: services, DOS memory, exceptions, and calls between the modes.
-//! It holds nothing but tests, over the public calls of the crates that `host_run` is built on, and of those for watchpoints and the timer.
+//! It holds nothing but tests, over the public calls of `host_run`, of the crates that it is built on, and of those for watchpoints and the
+//! timer.
 //! They stand apart because a crate with tests of its own is proved once more with them.
 //! A row may be added or put in plainer words; its values are those of the DPMI text. One is dropped only where another shows the same.
 #![tactic(auto)]

@@ -45,7 +45,7 @@ refusal_answer refusal w = record { carry = Set; world = with_ax (refusal_number
 abbrev pub HasOtherAx : World → World → Type 0
 HasOtherAx w u = (number : ℕ) × (u ≡ with_ax number w)
 
--- and but for BX
+-- the second world is the first one but for AX and BX
 abbrev pub HasOtherAxAndBx : World → World → Type 0
 HasOtherAxAndBx w u = (number other : ℕ) × (u ≡ with_ax number (with_bx other w))
 

@@ -14,5 +14,5 @@ pub use laws::{
     every_nested_call_of_a_timed_run_hands_over, every_round_changes_the_innermost_record_at_most,
     every_round_is_counted, every_round_is_sound, every_touch_of_a_round_is_held,
 };
-pub use rounds::{next_round, round_with_timer, timed_run};
+pub use rounds::{next_round, timed_run};
 pub use timer::{TIMER_INTERRUPT, Timer};

@@ -11,8 +11,8 @@ use guest_space::CodeWindow;
 use host_run::{Ended, Host};
 use watch_run::{Watches, next_watched_turn};
 
-/// The round of a client that has not ended, with a window of code that rounds hand on. It answers only whether the run has ended.
-/// Source: own.
+/// One round of a client that has not ended: the timer's part, and a turn with the client's watchpoints where that part wasn't the whole
+/// round. Rounds hand a window of code on. It answers only whether the run has ended. Source: own.
 pub fn next_round(
     host: &mut Host,
     watches: &mut Watches,
@@ -37,28 +37,6 @@ pub fn next_round(
             *window = CodeWindow::NONE;
             Err(Ended)
         }
-    }
-}
-
-/// One round: the timer's part, and a turn with the client's watchpoints where that part wasn't the whole round. After an exit it returns
-/// that exit again and changes nothing. Source: own.
-pub fn round_with_timer(
-    host: &mut Host,
-    watches: &mut Watches,
-    timer: &mut Timer,
-) -> Result<(), Exit>
-    requires { host.old.world.exit ≡ None → host.old.world.steps < MAX_STEPS }
-    ensures round { MakesRound host.old host.new watches.old watches.new timer.old timer.new result }
-    ensures every { timer.new.every ≡ timer.old.every }
-{
-    if let Some(exit) = host.exit() {
-        return Err(exit);
-    }
-    let mut window = CodeWindow::NONE;
-    let _ended = next_round(host, watches, timer, &mut window);
-    match host.exit() {
-        Some(exit) => Err(exit),
-        None => Ok(()),
     }
 }
 

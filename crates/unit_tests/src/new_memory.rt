@@ -1,5 +1,8 @@
 // The bytes of a new memory.
 use crate::compare::{in_row, same};
+use client_world::host_frames::{
+    CALLBACKS_START, EXCEPTIONS_START, FREE_HEAD_START, PAGEABLE_START,
+};
 use guest_ram::Ram;
 use host_memory::blank_memory;
 use std::test::Fail;
@@ -60,6 +63,22 @@ const DOUBLEWORDS: [(u32, u32); 34] = [
     (0x18_7004, 1),
     (0x18_7008, 0),
 ];
+
+// Where the lists of the vectors' frame begin, the head of the free frames among them, by the memory map.
+const STARTS: [(u32, u32); 4] = [
+    (EXCEPTIONS_START, 0x800),
+    (CALLBACKS_START, 0x900),
+    (PAGEABLE_START, 0xA00),
+    (FREE_HEAD_START, 0xB10),
+];
+
+#[test]
+fn the_lists_of_the_vectors_frame_begin_there() -> Result<(), Fail> {
+    for (number, (start, want)) in STARTS.iter().enumerate() {
+        in_row(number, same("start", start == want))?;
+    }
+    Ok(())
+}
 
 #[test]
 fn a_new_memory_has_these_bytes(rt: HostRuntime) -> Result<(), Fail> {

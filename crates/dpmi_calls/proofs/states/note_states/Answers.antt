@@ -1,7 +1,7 @@
-use Rattle.std.proofs.{Common.{arith, ◌∙◌, ◌≡◌, ap, inl, length, refl, slice_index, subst}, lemmas.List.{get_or-map, length-map}}
+use Rattle.std.proofs.{Common.{arith, ◌∙◌, ◌≡◌, ap, length, refl, slice_index, subst}, lemmas.List.{get_or-map, length-map}}
 use Rattle.client_world.specs.World.{HostWorld}
 use Rattle.dpmi_calls.specs.{Clients.{given}, Memory.{seen}, Turns.{host_of}, States.{IsState}, declared.start.Client.{Client}}
-use Rattle.dpmi_calls.proofs.{Bytes.{one_more_row, room_of_row}, RowLists.{descends, one_more_state, still_in_order, still_small}}
+use Rattle.dpmi_calls.proofs.{Bytes.{one_more_row, room_of_row}, RowLists.{later, one_more_state}}
 use Rattle.{dpmi_calls.proofs.Starts.{host_is}, host_memory.specs.View.{MachineView}}
 use Rattle.dpmi_calls.proofs.states.note_states.Goals as goal
 
@@ -11,16 +11,17 @@ loop-i-init c = (
   refl,
   λ e. c.requires.start,
   λ k e. absurd (omega (arith, e)),
-  λ k lt. absurd (omega (arith, lt)),
-  λ k lt. absurd (omega (arith, lt)),
   λ k other lt. absurd (omega (arith, lt)),
   λ k j lt few. absurd (omega (arith, lt)),
 )
 
-pub returns-then-turn-run-clause-refused : goal.returns-then-turn-run-clause-refused
-returns-then-turn-run-clause-refused c = λ _.
-    inl (descends c.args.turns.now c.loop-i.i _ c.loop-i.run.turns (omega (arith, c.loop-i-test.true)) refl c.loop-i.invariant.2
-    c.loop-i.invariant.3 c.if-turn-run.true)
+pub advance_to-requires-clause-later : goal.advance_to-requires-clause-later
+advance_to-requires-clause-later c =
+    let l = c.loop-i in
+    later c.args.turns.now l.i l.run.turns l.invariant.2 l.invariant.3 (omega (arith, c.loop-i-test.true)) c.requires.order
+
+pub advance_to-requires-clause-room : goal.advance_to-requires-clause-room
+advance_to-requires-clause-room c = c.requires.order.1 c.loop-i.i (omega (arith, c.loop-i-test.true))
 
 pub loop-i-preserved : goal.loop-i-preserved
 loop-i-preserved c =
@@ -34,18 +35,16 @@ loop-i-preserved c =
       moved.client ∙ l.invariant.1,
       λ e. absurd (omega (arith, e)),
       λ k e. let same : l.i ≡ k = omega (arith, e) in moved.turns ∙ ap (slice_index turns) same,
-      still_in_order turns l.i l.run.turns l.invariant.3 c.if-turn-run.false l.invariant.4,
-      still_small turns l.i c.if-turn-gt-MAX_STEPS.false l.invariant.5,
       one_more_state (λ n s. IsState s (host_of (given client) (slice_index turns n))) l.rows l.i c.state_of.result
           (let size : length l.rows ≡ length turns = l.auto.rows ∙ c.requires.rows in omega (arith, size, c.loop-i-test.true))
-          (subst (λ (h : HostWorld). IsState c.state_of.result h) here c.state_of.ensures) l.invariant.6,
+          (subst (λ (h : HostWorld). IsState c.state_of.result h) here c.state_of.ensures) l.invariant.4,
       λ k j lt few.
           one_more_row l.memory c.copy_seen.new.into (length places) l.i _ k j
           (λ m n. seen (host_of (given client) (slice_index turns m)).machine (slice_index places n))
           (room_of_row l.i (length turns) (length places) (length l.memory) (omega (arith, c.loop-i-test.true))
           (l.auto.memory ∙ c.requires.memory))
           (ap length c.copy_seen.ensures ∙ length-map places _)
-          l.invariant.7
+          l.invariant.5
           (λ n less. ap (λ ys. slice_index ys n) c.copy_seen.ensures ∙ get_or-map _ places n 0 0 less
           ∙ ap (λ (v : MachineView). seen v.world (slice_index places n)) c.machine.ensures
           ∙ ap (λ (h : HostWorld). seen h.machine (slice_index places n)) here)

@@ -1,14 +1,11 @@
-use Rattle.std.proofs.Common.{◌≡◌, ◌≤◌, ◌<◌, ◌+◌, ◌*◌, ℕ, length, slice_index, slice_index_or}
+use Rattle.std.proofs.Common.{◌≡◌, ◌<◌, ◌+◌, ◌*◌, ℕ, length, slice_index, slice_index_or}
 use Rattle.dpmi_calls.specs.{Clients.{given}, Memory.{seen}, Runs.{IsRun}, Turns.{host_of}, States.{IsState}, declared.state.State.{State}}
-use Rattle.client_world.specs.declared.limits.TheConstants.{MAX_STEPS}
 use Rattle.dpmi_calls.proofs.states.note_states.Given as goal
 
 abbrev pub invariant-loop-i : goal.invariant-loop-i
 invariant-loop-i l =
     IsRun l.run × (l.run.client ≡ l.fn.run.client) × (l.i ≡ 0 → l.run.turns ≡ 0)
     × ((k : ℕ) → l.i ≡ k + 1 → l.run.turns ≡ slice_index l.turns k)
-    × ((k : ℕ) → k + 1 < l.i → slice_index l.turns k ≤ slice_index l.turns (k + 1))
-    × ((k : ℕ) → k < l.i → slice_index l.turns k ≤ MAX_STEPS)
     × ((k : ℕ) (other : State) → k < l.i →
     IsState (slice_index_or l.rows k other) (host_of (given l.fn.run.client) (slice_index l.turns k)))
     × ((k j : ℕ) → k < l.i → j < length l.places → slice_index l.memory (k * length l.places + j)

@@ -1,51 +1,34 @@
 use Rattle.{std.proofs.Common.{arith, inl, inr, refl, subst, sym}, std.specs.{Prelude.{IsSome}, declared.option.Option.{Option}}}
-use Rattle.dpmi_calls.proofs.states.states_after.Goals.{then-rows-turns-via-then-rows-turns}
-use Rattle.dpmi_calls.proofs.{states.states_after.Goals.{then-rows-turns-via-else-rows-turns+then-not-is_product}, Results.{of_err, of_ok}}
-use Rattle.dpmi_calls.proofs.Results.{on_ok}
+use Rattle.dpmi_calls.proofs.Results.{of_err, of_ok, on_ok}
 use Rattle.dpmi_calls.specs.{Clients.{given}, Turns.{host_of}, States.{AreSeen, AreStates}, declared.start.Client.{Client}}
 use Rattle.dpmi_cli.specs.declared.prepare.Reason.{Reason}
 use Rattle.dpmi_calls.proofs.states.states_after.Goals as goal
 
 -- ---- the states are noted
 
-pub returns-then-note_states-clause-rows : goal.returns-then-note_states-clause-rows
-returns-then-note_states-clause-rows c = λ _.
+pub returns-in-Ok-Ok-clause-rows : goal.returns-in-Ok-Ok-clause-rows
+returns-in-Ok-Ok-clause-rows c = λ _.
     subst (λ (x : Client). AreStates (host_of (given x)) c.args.turns.now c.note_states.new.rows)
     (of_ok _ _ _ c.in-Ok-Ok.field-0-is c.in-Ok-Ok.ensures.client)
-    (c.note_states.ensures.rows c.if-note_states.true)
+    c.note_states.ensures.rows
 
-pub returns-then-note_states-clause-memory : goal.returns-then-note_states-clause-memory
-returns-then-note_states-clause-memory c = λ _.
+pub returns-in-Ok-Ok-clause-memory : goal.returns-in-Ok-Ok-clause-memory
+returns-in-Ok-Ok-clause-memory c = λ _.
     subst (λ (x : Client). AreSeen (host_of (given x)) c.args.turns.now c.args.places.now c.note_states.new.memory)
     (of_ok _ _ _ c.in-Ok-Ok.field-0-is c.in-Ok-Ok.ensures.client)
-    (c.note_states.ensures.memory c.if-note_states.true)
+    c.note_states.ensures.memory
 
-pub returns-then-note_states-clause-taken : goal.returns-then-note_states-clause-taken
-returns-then-note_states-clause-taken c = λ _.
+pub returns-in-Ok-Ok-clause-taken : goal.returns-in-Ok-Ok-clause-taken
+returns-in-Ok-Ok-clause-taken c = λ _.
     record {
       rows = omega (arith, c.if-rows-turns.false);
       memory = let is = c.is_product.ensures in let product = c.if-not-is_product.false in grind (arith, is, product);
-      order = c.note_states.ensures.taken c.if-note_states.true;
+      order = c.are_in_order.ensures.taken (c.if-not-are_in_order.false);
       client = on_ok _ _ _ c.in-Ok-Ok.field-0-is c.in-Ok-Ok.ensures.taken;
     }
 
-pub returns-then-note_states-clause-refused : goal.returns-then-note_states-clause-refused
-returns-then-note_states-clause-refused c = λ e. absurd (omega (arith, e))
-
--- ---- the turns go down
-
-pub returns-in-Ok-Ok-clause-rows : goal.returns-in-Ok-Ok-clause-rows
-returns-in-Ok-Ok-clause-rows c = λ e. absurd (omega (arith, e))
-
-pub returns-in-Ok-Ok-clause-memory : goal.returns-in-Ok-Ok-clause-memory
-returns-in-Ok-Ok-clause-memory c = λ e. absurd (omega (arith, e))
-
-pub returns-in-Ok-Ok-clause-taken : goal.returns-in-Ok-Ok-clause-taken
-returns-in-Ok-Ok-clause-taken c = λ e. absurd (omega (arith, e))
-
 pub returns-in-Ok-Ok-clause-refused : goal.returns-in-Ok-Ok-clause-refused
-returns-in-Ok-Ok-clause-refused c = λ _.
-    inr (inr (elim (c.note_states.ensures.refused c.if-note_states.false) [ inl down ↦ inl down | inr past ↦ inr (inl past) ]))
+returns-in-Ok-Ok-clause-refused c = λ e. absurd (omega (arith, e))
 
 -- ---- the client is refused, or memory is out
 
@@ -75,6 +58,8 @@ returns-clause-taken c = λ e. absurd (omega (arith, e))
 pub returns-clause-refused : goal.returns-clause-refused
 returns-clause-refused c = λ e. absurd (omega (arith, e))
 
+-- ---- a length isn't as it should be, or the turns aren't in order
+
 pub returns-then-rows-turns-clause-rows : goal.returns-then-rows-turns-clause-rows
 returns-then-rows-turns-clause-rows c = λ e. absurd (omega (arith, e))
 
@@ -85,8 +70,28 @@ pub returns-then-rows-turns-clause-taken : goal.returns-then-rows-turns-clause-t
 returns-then-rows-turns-clause-taken c = λ e. absurd (omega (arith, e))
 
 pub returns-then-rows-turns-clause-refused : goal.returns-then-rows-turns-clause-refused
-returns-then-rows-turns-clause-refused c = λ _. elim c.then-rows-turns.branch [
-  | then-rows-turns-via-then-rows-turns w ↦ inl w.if-rows-turns.true
-  | then-rows-turns-via-else-rows-turns+then-not-is_product w ↦ inr (inl (
-      let differs = w.is_product.ensures in let is = w.if-not-is_product.true in grind (arith, differs, is)))
-]
+returns-then-rows-turns-clause-refused c = λ _. inl c.if-rows-turns.true
+
+pub returns-then-not-is_product-clause-rows : goal.returns-then-not-is_product-clause-rows
+returns-then-not-is_product-clause-rows c = λ e. absurd (omega (arith, e))
+
+pub returns-then-not-is_product-clause-memory : goal.returns-then-not-is_product-clause-memory
+returns-then-not-is_product-clause-memory c = λ e. absurd (omega (arith, e))
+
+pub returns-then-not-is_product-clause-taken : goal.returns-then-not-is_product-clause-taken
+returns-then-not-is_product-clause-taken c = λ e. absurd (omega (arith, e))
+
+pub returns-then-not-is_product-clause-refused : goal.returns-then-not-is_product-clause-refused
+returns-then-not-is_product-clause-refused c = λ _. inr (inl (let differs = c.is_product.ensures in let is = c.if-not-is_product.true in grind (arith, differs, is)))
+
+pub returns-then-not-are_in_order-clause-rows : goal.returns-then-not-are_in_order-clause-rows
+returns-then-not-are_in_order-clause-rows c = λ e. absurd (omega (arith, e))
+
+pub returns-then-not-are_in_order-clause-memory : goal.returns-then-not-are_in_order-clause-memory
+returns-then-not-are_in_order-clause-memory c = λ e. absurd (omega (arith, e))
+
+pub returns-then-not-are_in_order-clause-taken : goal.returns-then-not-are_in_order-clause-taken
+returns-then-not-are_in_order-clause-taken c = λ e. absurd (omega (arith, e))
+
+pub returns-then-not-are_in_order-clause-refused : goal.returns-then-not-are_in_order-clause-refused
+returns-then-not-are_in_order-clause-refused c = λ _. inr (inr (elim (c.are_in_order.ensures.refused c.if-not-are_in_order.true) [ inl down ↦ inl down | inr past ↦ inr (inl past) ]))

@@ -1,5 +1,5 @@
-use Rattle.std.proofs.Common.{◌≡◌, ◌≤◌, ◌-◌, length, map, take}
-use Rattle.dpmi_calls.specs.{Clients.{given}, Memory.{seen}, Runs.{IsRun}, Turns.{host_of}, Stops.{stops_of, wanted_in}}
+use Rattle.std.proofs.Common.{◌≡◌, ◌≤◌, ◌<◌, ◌-◌, ℕ, length, map, take}
+use Rattle.dpmi_calls.specs.{Clients.{given}, Memory.{seen}, Runs.{IsRun}, Turns.{host_of}, Stops.{GoesOn, stops_of, wanted_in}}
 use Rattle.dpmi_calls.proofs.stops.find_first.Given as goal
 
 abbrev pub invariant-loop-done : goal.invariant-loop-done
@@ -8,3 +8,5 @@ invariant-loop-done l =
     × (l.before ≡ map (seen l.run.host.world.machine) l.wanted.bytes.now)
     × (l.made ≤ length l.stops)
     × (take l.made l.stops ≡ stops_of (wanted_in l.wanted) (host_of (given l.fn.run.client)) l.fn.run.turns (l.done - l.fn.run.turns))
+    × ((n : ℕ) → l.fn.run.turns ≤ n → n < l.done →
+    GoesOn (wanted_in l.wanted) (host_of (given l.fn.run.client)) l.fn.run.turns (length l.stops) n)
