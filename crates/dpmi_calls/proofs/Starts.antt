@@ -20,6 +20,13 @@ pub host_is : (r : ClientRun) → IsRun r → r.host.world ≡ host_of (given r.
 host_is r run =
     sym (host_by r.timer (record { host = r.host.world; watching = r.watches })) ∙ ap (λ (w : TimedWorld). w.watched.host) run.world
 
+-- a run in which there is no exit is that of a client that had not ended after as many turns
+pub exit_at : (c : Client) (n : ℕ) (r : ClientRun) → IsRun r → r.client ≡ c → r.turns ≡ n → r.host.world.exit ≡ None →
+    (host_of (given c) n).exit ≡ None
+exit_at c n r run client turns none =
+    ap (λ (h : HostWorld). h.exit) (sym (host_is r run ∙ ap (λ (x : Client). host_of (given x) r.turns) client
+    ∙ ap (host_of (given c)) turns)) ∙ none
+
 -- one more turn
 run_next : (c : ClientGiven) (n : ℕ) (every : Option ℕ) (before after : TimedWorld) → every ≡ timer_given c.timer →
     before ≡ client_after c n → after ≡ next_turn every before → after ≡ client_after c (n + 1)

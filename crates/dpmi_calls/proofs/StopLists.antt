@@ -1,10 +1,10 @@
 -- Lists of stops, the first byte that changed, and the turns of a search.
 use Rattle.std.proofs.Common.{arith, ◌≡◌, ◌≤◌, ◌<◌, ◌+◌, ◌-◌, ◌++◌, ◌∷◌, [], ℕ, Bool, true, false, List, map, refl, sym, subst, inl}
-use Rattle.std.proofs.Common.{inr, ◌∙◌, ap, None, Some}
+use Rattle.std.proofs.Common.{inr, ◌∙◌, ap, length, length-take, take, None, Some}
 use Rattle.std.proofs.{Common.{add-one}, Math.Nat.{eq-or-lt_of_le, sub_self}, lemmas.Iterator.Adapters.{position_from-zero}}
 use Rattle.std.specs.{Prelude.{◌⊎◌, nat_eq, not, if◌then◌else◌}, List.{position, position_from}, declared.option.Option.{Option}}
 use Rattle.client_world.specs.World.{HostWorld, World}
-use Rattle.dpmi_calls.specs.{Memory.{seen}, Stops.{WantedStops, first_change, first_place, is_changed, is_outside, last_of, reason_at}}
+use Rattle.dpmi_calls.specs.{Memory.{seen}, Stops.{GoesOn, WantedStops, first_change, first_place, is_changed, is_outside, last_of, reason_at}}
 use Rattle.dpmi_calls.specs.{Stops.{reason_of, last_by, stops_by, stops_of}, declared.stops.Stop.{Stop}, declared.wanted.Reason.{Reason}}
 use Rattle.dpmi_calls.specs.declared.wanted.Reason.TheVariants.{Change, Place, Outside}
 
@@ -94,3 +94,12 @@ one_more_turn P start done here old n le lt = by (eq-or-lt_of_le (omega (arith, 
     by : (n ≡ done) ⊎ (n < done) → P n
     by (inl same) = subst P (sym same) here
     by (inr less) = old n le less
+
+-- one more turn before which the client had not ended and there was room
+pub still_goes_on : (s : WantedStops) (host : ℕ → HostWorld) (start done made room : ℕ) (stops : List Stop) → room ≡ length stops →
+    (host done).exit ≡ None → made < length stops → take made stops ≡ stops_of s host start (done - start) →
+    ((n : ℕ) → start ≤ n → n < done → GoesOn s host start (length stops) n) →
+    (n : ℕ) → start ≤ n → n < done + 1 → GoesOn s host start room n
+still_goes_on s host start done made room stops same exit few is old =
+    rw same (one_more_turn (GoesOn s host start (length stops)) start done
+    (record { no_exit = exit; space = omega (arith, few, ap length is, length-take made stops) }) old)

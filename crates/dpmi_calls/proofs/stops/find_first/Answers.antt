@@ -1,10 +1,18 @@
 use Rattle.std.proofs.Common.{arith, ◌∙◌, ◌+◌, ◌-◌, ◌++◌, ap, refl, sym, take}
 use Rattle.dpmi_calls.specs.{Clients.{given}, Turns.{host_of}, Stops.{reason_at, stops_by, stops_of, wanted_in}}
-use Rattle.{dpmi_calls.specs.declared.start.Client.{Client}, dpmi_calls.proofs.StopLists.{none_yet, noted}}
+use Rattle.{dpmi_calls.specs.declared.start.Client.{Client}, dpmi_calls.proofs.{Starts.{exit_at}, StopLists.{none_yet, noted, still_goes_on}}}
 use Rattle.dpmi_calls.proofs.stops.find_first.Goals as goal
 
 pub loop-done-init : goal.loop-done-init
-loop-done-init c = (c.requires.run, refl, refl, c.requires.seen, omega arith, none_yet _ _ _)
+loop-done-init c = (
+  c.requires.run,
+  refl,
+  refl,
+  c.requires.seen,
+  omega arith,
+  none_yet _ _ _,
+  λ n le lt. absurd (omega (arith, le, lt)),
+)
 
 pub loop-done-preserved : goal.loop-done-preserved
 loop-done-preserved c =
@@ -19,6 +27,9 @@ loop-done-preserved c =
           ∙ ap (λ (x : Client). take l.made l.stops
           ++ stops_by (l.run.turns + 1) (reason_at w (host_of (given x)) l.run.turns)) l.invariant.1
           ∙ ap (λ n. take l.made l.stops ++ stops_by (n + 1) (reason_at w (host_of (given c.args.run.now.client)) n)) l.invariant.2),
+      still_goes_on w (host_of (given c.args.run.now.client)) c.args.run.now.turns l.done l.made _ l.stops made.length
+          (exit_at c.args.run.now.client l.done l.run l.invariant.0 l.invariant.1 l.invariant.2 c.if-is_some.false)
+          (omega (arith, c.if-made-room.false, l.invariant.4)) l.invariant.5 l.invariant.6,
     )
 
 pub returns-then-made-room-clause-stops : goal.returns-then-made-room-clause-stops

@@ -1,10 +1,10 @@
-use Rattle.std.proofs.Common.{◌∙◌, ◌+◌, ◌-◌, ap, refl, sym}
+use Rattle.std.proofs.Common.{arith, ◌≡◌, ◌∙◌, ◌+◌, ◌-◌, None, ap, refl, sym}
 use Rattle.dpmi_calls.specs.{Clients.{given}, Turns.{host_of}, Stops.{last_by, last_of, reason_at, wanted_in}}
-use Rattle.{dpmi_calls.specs.declared.start.Client.{Client}, dpmi_calls.proofs.StopLists.{last_noted, no_last_yet}}
+use Rattle.{dpmi_calls.specs.declared.start.Client.{Client}, dpmi_calls.proofs.{Starts.{exit_at}, StopLists.{last_noted, no_last_yet, one_more_turn}}}
 use Rattle.dpmi_calls.proofs.stops.find_last.Goals as goal
 
 pub loop-done-init : goal.loop-done-init
-loop-done-init c = (c.requires.run, refl, refl, c.requires.seen, no_last_yet _ _ _)
+loop-done-init c = (c.requires.run, refl, refl, c.requires.seen, no_last_yet _ _ _, λ n le lt. absurd (omega (arith, le, lt)))
 
 pub loop-done-preserved : goal.loop-done-preserved
 loop-done-preserved c =
@@ -17,6 +17,8 @@ loop-done-preserved c =
           (made.last
           ∙ ap (λ (x : Client). last_by l.last (l.run.turns + 1) (reason_at w (host_of (given x)) l.run.turns)) l.invariant.1
           ∙ ap (λ n. last_by l.last (n + 1) (reason_at w (host_of (given c.args.run.now.client)) n)) l.invariant.2),
+      one_more_turn (λ n. (host_of (given c.args.run.now.client) n).exit ≡ None) c.args.run.now.turns l.done
+          (exit_at c.args.run.now.client l.done l.run l.invariant.0 l.invariant.1 l.invariant.2 c.if-is_some.false) l.invariant.5,
     )
 
 pub returns-then-is_some-clause-last : goal.returns-then-is_some-clause-last
