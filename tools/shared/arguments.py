@@ -1,5 +1,6 @@
 """The arguments of the repository's scripts: those that they take, and how they end on any other."""
 
+import argparse
 import os
 import shutil
 import signal
@@ -32,6 +33,13 @@ def program(given):
     if not (path.is_file() and os.access(path, os.X_OK)):
         fail("there is no program %s" % given, 2)
     return path
+
+
+def at_least_one(given):
+    """A number of what is to be checked, for argparse: with none a check would pass."""
+    if not given.isdecimal() or int(given) == 0:
+        raise argparse.ArgumentTypeError("%s is no number from 1 on" % given)
+    return int(given)
 
 
 def need_rt():
