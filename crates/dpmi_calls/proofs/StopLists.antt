@@ -1,12 +1,12 @@
 -- Lists of stops, the first byte that changed, and the turns of a search.
-use Rattle.std.proofs.Common.{arith, ◌≡◌, ◌≤◌, ◌<◌, ◌+◌, ◌-◌, ◌++◌, ◌∷◌, [], ℕ, Bool, true, false, List, map, refl, sym, subst, inl}
-use Rattle.std.proofs.Common.{inr, ◌∙◌, ap, length, length-take, take, None, Some}
-use Rattle.std.proofs.{Common.{add-one}, Math.Nat.{eq-or-lt_of_le, sub_self}, lemmas.Iterator.Adapters.{position_from-zero}}
+use Rattle.std.proofs.Common.{arith, ◌≡◌, ◌≤◌, ◌<◌, ◌+◌, ◌-◌, ◌++◌, ◌∷◌, [], ℕ, Bool, true, false, List, map, refl, sym, subst, inl, inr}
+use Rattle.std.proofs.{Common.{◌∙◌, ap, length, length-take, take, None, Some, add-one}, Math.Nat.{eq-or-lt_of_le, sub_self}}
+use Rattle.std.proofs.lemmas.Iterator.Adapters.{position_from-zero}
 use Rattle.std.specs.{Prelude.{◌⊎◌, nat_eq, not, if◌then◌else◌}, List.{position, position_from}, declared.option.Option.{Option}}
 use Rattle.client_world.specs.World.{HostWorld, World}
-use Rattle.dpmi_calls.specs.{Memory.{seen}, Stops.{GoesOn, WantedStops, first_change, first_place, is_changed, is_outside, last_of, reason_at}}
-use Rattle.dpmi_calls.specs.{Stops.{reason_of, last_by, stops_by, stops_of}, declared.stops.Stop.{Stop}, declared.wanted.Reason.{Reason}}
-use Rattle.dpmi_calls.specs.declared.wanted.Reason.TheVariants.{Change, Place, Outside}
+use Rattle.dpmi_calls.specs.{Memory.{seen}, Stops.{GoesOn, WantedStops, first_change, first_place, is_changed, is_outside, last_of}}
+use Rattle.dpmi_calls.specs.{Stops.{reason_at, reason_of, last_by, stops_by, stops_of}, declared.stops.Stop.{Stop}}
+use Rattle.dpmi_calls.specs.{declared.wanted.Reason.{Reason}, declared.wanted.Reason.TheVariants.{Change, Place, Outside}}
 
 -- ---- the first byte that changed
 

@@ -1,6 +1,6 @@
 -- The client of a call: why it is refused, and the text that `dpmi run` writes of it. Source: own.
-use Rattle.std.specs.Prelude.{◌≡◌, ℕ, List, length, Bool, true, ◌&&◌, not, nat_eq, nat_le, nat_lt, if◌then◌else◌, None, Some}
-use Rattle.std.specs.{Prelude.{option_map}, declared.option.Option.{Option}}
+use Rattle.std.specs.Prelude.{◌≡◌, ℕ, List, length, Bool, true, ◌&&◌, not, nat_eq, nat_le, nat_lt, if◌then◌else◌, None, Some, option_map}
+use Rattle.std.specs.declared.option.Option.{Option}
 use Rattle.client_world.specs.declared.limits.TheConstants.{GREATEST_TIMER, MAX_FILE, MAX_KEYS, MAX_PAGES, MAX_STEPS, MAX_TRACE}
 use Rattle.client_world.specs.World.{HostWorld}
 use Rattle.dpmi_cli.specs.{Answer.{Answer, Refuses, Starts, Verdict, answer_to, run_verdict}, declared.prepare.Reason.{Reason}}

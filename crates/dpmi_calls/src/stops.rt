@@ -272,8 +272,8 @@ pub fn first_stops(
 }
 
 /// Gives the last stop of a client's turns from `from` to `to`, the first turn being 1; its `turn` is 0 where there is none. `reached` is
-/// the last turn that was made: `to`, or an earlier one after which the client had ended, `from` - 1 where it had before. Returns as `first_stops` does; with 2 and 5 there is no
-/// stop, and `reached` is 0. Source: own.
+/// the last turn that was made: `to`, or an earlier one after which the client had ended, `from` - 1 where it had before. Returns as
+/// `first_stops` does; with 2 and 5 there is no stop, and `reached` is 0. Source: own.
 pub fn last_stop(
     alloc: Global,
     client: Client<'_>,

@@ -1,8 +1,8 @@
 use Rattle.std.proofs.{Common.{arith, ◌∙◌, ◌≡◌, ap, length, refl, slice_index, subst}, lemmas.List.{get_or-map, length-map}}
 use Rattle.client_world.specs.World.{HostWorld}
 use Rattle.dpmi_calls.specs.{Clients.{given}, Memory.{seen}, Turns.{host_of}, States.{IsState}, declared.start.Client.{Client}}
-use Rattle.dpmi_calls.proofs.{Bytes.{one_more_row, room_of_row}, RowLists.{later, one_more_state}}
-use Rattle.{dpmi_calls.proofs.Starts.{host_is}, host_memory.specs.View.{MachineView}}
+use Rattle.dpmi_calls.proofs.{Bytes.{one_more_row, room_of_row}, RowLists.{later, one_more_state}, Starts.{host_is}}
+use Rattle.host_memory.specs.View.{MachineView}
 use Rattle.dpmi_calls.proofs.states.note_states.Goals as goal
 
 pub loop-i-init : goal.loop-i-init

@@ -82,7 +82,8 @@ pub returns-then-not-is_product-clause-taken : goal.returns-then-not-is_product-
 returns-then-not-is_product-clause-taken c = λ e. absurd (omega (arith, e))
 
 pub returns-then-not-is_product-clause-refused : goal.returns-then-not-is_product-clause-refused
-returns-then-not-is_product-clause-refused c = λ _. inr (inl (let differs = c.is_product.ensures in let is = c.if-not-is_product.true in grind (arith, differs, is)))
+returns-then-not-is_product-clause-refused c =
+    λ _. inr (inl (let differs = c.is_product.ensures in let is = c.if-not-is_product.true in grind (arith, differs, is)))
 
 pub returns-then-not-are_in_order-clause-rows : goal.returns-then-not-are_in_order-clause-rows
 returns-then-not-are_in_order-clause-rows c = λ e. absurd (omega (arith, e))
@@ -94,4 +95,5 @@ pub returns-then-not-are_in_order-clause-taken : goal.returns-then-not-are_in_or
 returns-then-not-are_in_order-clause-taken c = λ e. absurd (omega (arith, e))
 
 pub returns-then-not-are_in_order-clause-refused : goal.returns-then-not-are_in_order-clause-refused
-returns-then-not-are_in_order-clause-refused c = λ _. inr (inr (elim (c.are_in_order.ensures.refused c.if-not-are_in_order.true) [ inl down ↦ inl down | inr past ↦ inr (inl past) ]))
+returns-then-not-are_in_order-clause-refused c =
+    λ _. inr (inr (elim (c.are_in_order.ensures.refused c.if-not-are_in_order.true) [ inl down ↦ inl down | inr past ↦ inr (inl past) ]))

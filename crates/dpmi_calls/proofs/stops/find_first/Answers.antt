@@ -1,6 +1,7 @@
 use Rattle.std.proofs.Common.{arith, ◌∙◌, ◌+◌, ◌-◌, ◌++◌, ap, refl, sym, take}
 use Rattle.dpmi_calls.specs.{Clients.{given}, Turns.{host_of}, Stops.{reason_at, stops_by, stops_of, wanted_in}}
-use Rattle.{dpmi_calls.specs.declared.start.Client.{Client}, dpmi_calls.proofs.{Starts.{exit_at}, StopLists.{none_yet, noted, still_goes_on}}}
+use Rattle.dpmi_calls.specs.declared.start.Client.{Client}
+use Rattle.dpmi_calls.proofs.{Starts.{exit_at}, StopLists.{none_yet, noted, still_goes_on}}
 use Rattle.dpmi_calls.proofs.stops.find_first.Goals as goal
 
 pub loop-done-init : goal.loop-done-init

@@ -1,6 +1,7 @@
 use Rattle.std.proofs.Common.{arith, ◌≡◌, ◌∙◌, ◌+◌, ◌-◌, None, ap, refl, sym}
 use Rattle.dpmi_calls.specs.{Clients.{given}, Turns.{host_of}, Stops.{last_by, last_of, reason_at, wanted_in}}
-use Rattle.{dpmi_calls.specs.declared.start.Client.{Client}, dpmi_calls.proofs.{Starts.{exit_at}, StopLists.{last_noted, no_last_yet, one_more_turn}}}
+use Rattle.dpmi_calls.specs.declared.start.Client.{Client}
+use Rattle.dpmi_calls.proofs.{Starts.{exit_at}, StopLists.{last_noted, no_last_yet, one_more_turn}}
 use Rattle.dpmi_calls.proofs.stops.find_last.Goals as goal
 
 pub loop-done-init : goal.loop-done-init

@@ -14,6 +14,7 @@ invariant_of-self c =
       c.self.invariant.0,
       c.self.invariant.1,
       c.self.invariant.2,
-      set_warm m.ram m.cache c.cache_place.result c.entry_of.result c.cache_place.ensures.inside c.self.invariant.3 c.entry_of.ensures.used c.entry_of.ensures.hit
+      set_warm m.ram m.cache c.cache_place.result c.entry_of.result c.cache_place.ensures.inside c.self.invariant.3 c.entry_of.ensures.used
+          c.entry_of.ensures.hit
           (ap (λ (page : ℕ). page % CACHE_SIZE) c.entry_of.ensures.page ∙ sym c.cache_place.ensures.place),
     )
