@@ -1,18 +1,19 @@
 """Answers gdb's packets about a client's run."""
 
+import re
 import sys
 
 import target
 from timeline import Wanted
-from wire import Interrupted
+from wire import NO_PACKET, NO_TEXT, GivenUp, Interrupted
 
 import dpmi
 
 SIGNALS = {0: 8, 1: 5, 3: 5, 4: 8, 6: 4, 7: 4, 16: 8}  # of exceptions, by gdb's numbers; of any other it is 11
 INTERRUPTED, STOPPED, KILLED, SEGMENT = 2, 5, 9, 11
 MOST_WATCHED, MOST_READ = 4096, 0x3800  # bytes
-FEATURES = ("PacketSize=8000;ReverseStep+;ReverseContinue+;qXfer:features:read+;swbreak+;hwbreak+;vContSupported+;"
-            "QStartNoAckMode+")
+# Without acknowledgements gdb would take an answer that it gave up for that to its next packet.
+FEATURES = "PacketSize=8000;ReverseStep+;ReverseContinue+;qXfer:features:read+;swbreak+;hwbreak+;vContSupported+"
 HELP = """monitor turn           where the run is
 monitor turn N         goes to turn N: type stepi afterwards, and gdb is there
 monitor trace [N]      the last N lines of the trace up to this turn (20)
@@ -29,8 +30,13 @@ class Stub:
 
     def __init__(self, timeline, wire, base):
         self.timeline, self.wire, self.base = timeline, wire, base
-        self.turn, self.jump = 0, None
         self.places, self.ranges = set(), set()
+        self.is_extended = False
+        self.begin()
+
+    def begin(self):
+        """Is before the first turn, as if the user had never been elsewhere."""
+        self.turn, self.jump = 0, None
         self.shown, self.at_line_start = 0, True
         self.last = None  # the last turn before the end, once the user was there
 
@@ -55,8 +61,9 @@ class Stub:
         self.at_line_start = True
 
     def stop(self, turn, signal=STOPPED, why=""):
-        self.turn = turn
+        self.timeline.prepare(turn)
         self.show_console(turn)
+        self.turn = turn
         self.wire.send("T%02x%s" % (signal, why))
 
     def watch(self, address):
@@ -73,12 +80,12 @@ class Stub:
 
     def reach_end(self, turn):
         """The client ends in this turn: stops before it, so that one can go back from there; the next time it ends."""
-        row, last = self.timeline.state(turn), self.timeline.before(turn)
+        row, last = self.timeline.state(turn), max(self.timeline.before(turn), self.turn)
         if self.last == last == self.turn:
             return self.wire.send(answer_of_end(row))
-        self.last = last
         self.show_console(turn)
-        self.tell("%s, at turn %d; go back from here, or continue to let it end" % (words_of_end(row), turn))
+        self.tell("%s, in turn %d; this is after turn %d. Go back from here, or continue to let it end" % (words_of_end(row), turn, last))
+        self.last = last
         if row.exit == dpmi.FAULT:
             return self.stop(last, SIGNALS.get(row.exit_number, SEGMENT))
         return self.stop(last, why="replaylog:end;")
@@ -86,15 +93,18 @@ class Stub:
     # ---- running
 
     def run(self, go, *words):
-        """Runs the client by one of the functions below, or goes to the turn that the user named."""
+        """Runs the client by one of the functions below, or goes to the turn that the user named. gdb waits for that without end."""
+        self.wire.alive = b""
+        if self.jump is not None:
+            go, words, self.jump = self.go_to, [self.jump], None
         try:
-            if self.jump is None:
-                go(*words)
-            else:
-                turn, self.jump = self.jump, None
-                self.stop(turn)
+            go(*words)
         except Interrupted:
-            self.stop(self.turn, INTERRUPTED)
+            self.wire.send("T%02x" % INTERRUPTED)
+
+    def go_to(self, turn):
+        row = self.timeline.state(turn)
+        return self.reach_end(row.steps) if row.exit else self.stop(turn)
 
     def forward(self, stay=None):
         wanted = Wanted(tuple(sorted(self.places)), tuple(sorted(self.ranges)), stay)
@@ -162,7 +172,7 @@ class Stub:
         if body in ("bc", "bs"):
             self.run(self.backward if body == "bc" else self.step_back)
         elif body.startswith("vCont;r"):
-            start, end = (int(word, 16) for word in action[1:].split(";")[0].split(":")[0].split(","))
+            start, end = (from_hex(word) for word in action[1:].split(";")[0].split(":")[0].split(","))
             self.run(*((self.forward, (self.linear(start), end - start)) if end > start else (self.step,)))
         elif action[0] in "cC":
             self.run(self.forward)
@@ -177,7 +187,7 @@ class Stub:
     def point(self, body):
         """Sets or clears a breakpoint or a watchpoint for writing."""
         kind, address, size = body[1:].split(";")[0].split(",")
-        address, size = self.linear(int(address, 16)), int(size, 16)
+        address, size = self.linear(from_hex(address)), from_hex(size)
         if kind in "01":
             points, key = self.places, address
         elif kind == "2":
@@ -196,7 +206,7 @@ class Stub:
         if body.startswith("qSupported"):
             return FEATURES
         if body.startswith("qXfer:features:read:target.xml:"):
-            at, size = (int(word, 16) for word in body.rsplit(":", 1)[1].split(","))
+            at, size = (from_hex(word) for word in body.rsplit(":", 1)[1].split(","))
             text = target.description()
             return ("m" if at + size < len(text) else "l") + text[at:at + size]
         if body.startswith("qRcmd,"):
@@ -211,18 +221,18 @@ class Stub:
         return target.registers(self.timeline.state(self.turn), self.turn, self.base)
 
     def bytes_at(self, words):
-        at, size = (int(word, 16) for word in words.split(","))
+        at, size = (from_hex(word) for word in words.split(","))
         return self.timeline.read(self.turn, self.linear(at), min(size, MOST_READ)).hex() or "E0e"
 
     def answer(self, body):
-        """The answer to a packet that doesn't run the client, empty where the packet isn't served; None to one that ends the session."""
+        """The answer to a packet that doesn't run the client, empty where the packet isn't served."""
         first, rest = body[:1], body[1:]
-        if body in ("?", "vCont?", "QStartNoAckMode"):
-            return {"?": "T%02x" % STOPPED, "vCont?": "vCont;c;C;s;S;r", "QStartNoAckMode": "OK"}[body]
+        if body in ("?", "vCont?"):
+            return "T%02x" % STOPPED if body == "?" else "vCont;c;C;s;S;r"
         if first == "g":
             return "".join(self.registers())
         if first == "p":
-            return self.register(int(rest, 16))
+            return self.register(from_hex(rest))
         if first == "m":
             return self.bytes_at(rest)
         if first in ("Z", "z"):
@@ -233,24 +243,46 @@ class Stub:
             return "OK"
         if first in ("G", "P", "M", "X"):
             return NO_WRITES
-        return None if first in ("D", "k") or body.startswith("vKill") else ""
+        return ""
+
+    def end_or_begin(self, body):
+        """Serves a packet that ends the run or begins it anew, and returns whether it was one. In extended mode gdb stays after the end."""
+        if body == "!":
+            self.is_extended = True
+            self.wire.send("OK")
+        elif body[:1] == "R" or body.startswith("vRun"):
+            self.begin()
+            if body[0] == "v":
+                self.wire.send("T%02x" % STOPPED)
+        elif body[:1] in ("D", "k") or body.startswith("vKill"):
+            if body[0] != "k":
+                self.wire.send("OK")
+            if not self.is_extended:
+                sys.exit(0)
+            self.begin()
+        else:
+            return False
+        return True
 
     def serve(self):
         """Answers packets until gdb leaves."""
         while True:
             body = self.wire.packet()
+            self.wire.alive = NO_TEXT if body.startswith("qRcmd") else NO_PACKET
             try:
-                if body and self.resume(body):
+                if body and (self.end_or_begin(body) or self.resume(body)):
                     continue
                 said = self.answer(body)
+            except GivenUp:
+                self.wire.forget()
+                continue
+            except Interrupted:
+                said = "E.interrupted"
+            except MemoryError:
+                said = "E.out of memory"
             except (ValueError, IndexError):
                 said = "E.this packet means nothing"
-            if said is None:
-                self.wire.send("OK" * (body[0] != "k"))
-                sys.exit(0)
             self.wire.send(said)
-            if body == "QStartNoAckMode":
-                self.wire.acks = False
 
     # ---- commands of the user's
 
@@ -259,7 +291,7 @@ class Stub:
         if len(words) > 2 or (number and not number.isdigit()) or (number and command not in ("turn", "trace")):
             return "monitor help says what there is\n"
         if command == "turn":
-            return self.go_to(int(number)) if number else self.place_of(self.turn)
+            return self.note_turn(int(number)) if number else self.place_of(self.turn)
         if command == "trace":
             return self.trace(int(number or SHOWN))
         if command in ("descs", "blocks"):
@@ -273,20 +305,25 @@ class Stub:
         return "turn %d: %04x:%08x, %s, depth %d%s\n" % (
             turn, row.cs, row.eip, mode, row.depth, ", at a trap of the host" if row.trap else "")
 
-    def go_to(self, turn):
+    def note_turn(self, turn):
+        """The run to this turn is made by the next command that runs the client, during which Ctrl-C works."""
         if turn > self.timeline.bound:
             return "the run has at most %d turns (--bound)\n" % self.timeline.bound
-        row = self.timeline.state(turn)
-        if row.exit:
-            return "the client ends at turn %d\n" % row.steps
         self.jump = turn
-        return self.place_of(turn) + "type stepi, and gdb is there\n"
+        return "type stepi, and gdb is at turn %d\n" % turn
 
     def trace(self, count):
         report = self.timeline.report(self.turn, 10_000)
         lines = report.trace[-count:] if count else []
         missing = "only the first 10000 lines are kept\n" if report.total > len(report.trace) else ""
         return "".join(line + "\n" for line in lines) + missing + "%d lines up to turn %d\n" % (report.total, self.turn)
+
+
+def from_hex(word):
+    """A number in hexadecimal digits. `int` would take a sign, blanks and underscores, too."""
+    if not re.fullmatch("[0-9A-Fa-f]+", word):
+        raise ValueError(word)
+    return int(word, 16)
 
 
 def words_of_end(row):

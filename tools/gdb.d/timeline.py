@@ -67,6 +67,12 @@ class Timeline:
         self.lately.move_to_end(address)
         return self.memory[turn][address]
 
+    def prepare(self, turn):
+        """Fetches what gdb looks at where the client stops. It waits then, and Ctrl-C works."""
+        at = self.state(turn).instruction
+        if turn > FAR:
+            self.line(turn, at & -LINE)
+
     def fetch_block(self, turn, at, size):
         self.state(turn)
         missing = [it for it in range(at & -LINE, at + size, LINE) if it & 0xFFFFFFFF not in self.memory[turn]]
@@ -158,7 +164,7 @@ class Timeline:
             if number:
                 show(read_report(result[1]).console)
 
-        return self.wire.attend(lambda: self.client.stops(*words), *texts, may_interrupt=True, heard=heard)[0]
+        return self.wire.attend(lambda: self.client.stops(*words), *texts, heard=heard)[0]
 
     def fetch_all(self, turns):
         """Where there are several stops, gdb will look at each of them, and at the turns before and after."""
@@ -208,7 +214,7 @@ class Timeline:
             calls.append(lambda: self.client.last_stop(1, high, wanted.places))
         if wanted.changes and high >= 0:
             calls.append(lambda: self.client.last_stop(1, high + 1, changes=wanted.changes))
-        found = [backward(stop) for stop, _ in self.wire.attend(*calls, may_interrupt=True) if stop]
+        found = [backward(stop) for stop, _ in self.wire.attend(*calls) if stop]
         return max(found, key=lambda stop: stop.turn, default=None)
 
     def stops_backward(self, low, high, wanted):
@@ -218,7 +224,7 @@ class Timeline:
             calls.append(lambda: self.client.stops(max(low, 1), high, wanted.places, room=room))
         if wanted.changes:
             calls.append(lambda: self.client.stops(low + 1, high + 1, changes=wanted.changes, room=room))
-        results = [stops for stops, _ in self.wire.attend(*calls, may_interrupt=True)]
+        results = [stops for stops, _ in self.wire.attend(*calls)]
         if any(len(stops) == room for stops in results):
             return None
         return sorted((backward(stop) for stops in results for stop in stops), key=lambda stop: stop.turn)
