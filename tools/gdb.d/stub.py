@@ -36,7 +36,7 @@ class Stub:
 
     def begin(self):
         """Is before the first turn, as if the user had never been elsewhere."""
-        self.turn, self.jump = 0, None
+        self.turn, self.jump, self.is_gone = 0, None, False
         self.shown, self.at_line_start = 0, True
         self.last = None  # the last turn before the end, once the user was there
 
@@ -82,9 +82,11 @@ class Stub:
         """The client ends in this turn: stops before it, so that one can go back from there; the next time it ends."""
         row, last = self.timeline.state(turn), max(self.timeline.before(turn), self.turn)
         if self.last == last == self.turn:
+            self.is_gone = True
             return self.wire.send(answer_of_end(row))
         self.show_console(turn)
-        self.tell("%s, in turn %d; this is after turn %d. Go back from here, or continue to let it end" % (words_of_end(row), turn, last))
+        self.tell("%s, in turn %d" % (words_of_end(row), turn))
+        self.tell("here it is after turn %d: go back, or continue to let it end" % last)
         self.last = last
         if row.exit == dpmi.FAULT:
             return self.stop(last, SIGNALS.get(row.exit_number, SEGMENT))
@@ -211,7 +213,8 @@ class Stub:
             return ("m" if at + size < len(text) else "l") + text[at:at + size]
         if body.startswith("qRcmd,"):
             return self.monitor(bytes.fromhex(body[6:]).decode("latin1").split()).encode("latin1").hex()
-        return {"qAttached": "0", "qC": "QC1", "qfThreadInfo": "m1", "qsThreadInfo": "l"}.get(body, "")
+        threads = "l" if self.is_gone else "m1"
+        return {"qAttached": "0", "qC": "QC1", "qfThreadInfo": threads, "qsThreadInfo": "l"}.get(body, "")
 
     def register(self, number):
         texts = self.registers()
@@ -259,7 +262,7 @@ class Stub:
                 self.wire.send("OK")
             if not self.is_extended:
                 sys.exit(0)
-            self.begin()
+            self.is_gone = True
         else:
             return False
         return True
