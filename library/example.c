@@ -3,16 +3,16 @@
        library/out/example FILE [--wrong]
 
    The emulator here is a toy that knows a few instructions: MOV of a number, ADD, SUB, CMP and MOV of two registers, INC, DEC, NOP, JMP and
-   Jcc. Yours goes in the place of `step`. With --wrong the toy forgets the auxiliary carry. library/build compiles it; by hand it is
-   cc example.c out/libdpmi.a. */
+   Jcc. Yours goes in the place of `step`. With --wrong the toy forgets the auxiliary carry. The status is 1 where a turn differs, 2 where
+   the client is refused, 3 where its file can't be read. library/build compiles it; by hand it is cc example.c out/libdpmi.a. */
 #include "dpmi.h"
 #include <stdio.h>
 #include <string.h>
 
-enum { TURNS = 10000, PART = 50, LONGEST = 6, PLACES = PART * LONGEST, MOST_FILE = 4 << 20 };
+enum { TURNS = 10000, PART = 50, LONGEST = 6, PLACES = PART * LONGEST, MOST_FILE = (4 << 20) + 1 };
 enum { CARRY = 1, PARITY = 4, AUXILIARY = 16, ZERO = 64, SIGN = 128, OVERFLOW = 2048 };
 
-static uint8_t file[MOST_FILE], no_keys[1];
+static uint8_t file[MOST_FILE]; /* one byte more than a client may have, so that a longer one is refused */
 static size_t file_length;
 static int is_wrong;
 
@@ -122,12 +122,12 @@ static int fetch(uint32_t first, struct dpmi_state rows[PART + 1], uint8_t codes
     static uint16_t memory[(PART + 1) * PLACES];
     for (int i = 0; i <= PART; i++)
         turns[i] = first + i;
-    int status = dpmi_states(file, file_length, no_keys, 0, 1024, 0, turns, PART + 1, places, 0, rows, PART + 1, memory, 0);
+    int status = dpmi_states(file, file_length, DPMI_NOTHING, 0, 1024, 0, turns, PART + 1, places, 0, rows, PART + 1, memory, 0);
     if (status != DPMI_DONE)
         return status;
     for (int k = 0; k < PLACES; k++)
         places[k] = rows[k / LONGEST].cs_base + rows[k / LONGEST].eip + k % LONGEST;
-    status = dpmi_states(file, file_length, no_keys, 0, 1024, 0, turns, PART + 1, places, PLACES, rows, PART + 1, memory,
+    status = dpmi_states(file, file_length, DPMI_NOTHING, 0, 1024, 0, turns, PART + 1, places, PLACES, rows, PART + 1, memory,
                          (PART + 1) * PLACES);
     for (int k = 0; k < PLACES; k++)
         codes[k / LONGEST][k % LONGEST] = memory[k / LONGEST * PLACES + k];
@@ -138,16 +138,19 @@ int main(int count, char **words)
 {
     static struct dpmi_state rows[PART + 1];
     static uint8_t codes[PART][LONGEST];
-    FILE *in = count > 1 ? fopen(words[1], "rb") : NULL;
     unsigned agreed = 0, unknown = 0;
-    if (!in)
-        return fputs("example FILE [--wrong]\n", stderr), 3;
-    file_length = fread(file, 1, sizeof file, in);
-    is_wrong = count > 2 && strcmp(words[2], "--wrong") == 0;
+    is_wrong = count == 3 && strcmp(words[2], "--wrong") == 0;
+    if (count != 2 + is_wrong)
+        return fputs("example FILE [--wrong]\n", stderr), 2;
+    FILE *in = fopen(words[1], "rb");
+    if (in)
+        file_length = fread(file, 1, sizeof file, in);
+    if (!in || ferror(in))
+        return perror(words[1]), 3;
     for (uint32_t first = 0; first < TURNS; first += PART) {
         int status = fetch(first, rows, codes);
         if (status != DPMI_DONE)
-            return fprintf(stderr, "status %d\n", status), status;
+            return fprintf(stderr, "%s: %s\n", words[1], status == DPMI_REFUSED ? "it is refused" : "out of memory"), status;
         for (int i = 0; i < PART && !rows[i].exit; i++) {
             struct dpmi_state here = rows[i];
             if (here.trap || here.depth != rows[i + 1].depth)

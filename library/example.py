@@ -4,15 +4,20 @@
     library/example.py FILE [TURNS] [--wrong]
 
 The emulator here is a toy that knows a few instructions: MOV, ADD, SUB and CMP of registers and numbers, INC, DEC, NOP, JMP and Jcc. Yours
-goes in the place of `step`. With --wrong the toy forgets the auxiliary carry.
+goes in the place of `step`. With --wrong the toy forgets the auxiliary carry. The status is 1 where a turn differs, 2 where the client is
+refused, 3 where its file can't be read.
 """
 
+import argparse
 import sys
 from pathlib import Path
 
 sys.dont_write_bytecode = True
 sys.path.insert(0, str(Path(__file__).resolve().parent))
-import dpmi  # noqa: E402
+try:
+    import dpmi
+except ImportError as error:
+    sys.exit("example.py: %s" % error)
 
 NAMES = "eax ecx edx ebx esp ebp esi edi".split()
 COMPARED = [*NAMES, "eip", "flags", "es", "cs", "ss", "ds", "fs", "gs", "mode"]
@@ -117,22 +122,41 @@ def cases(client, turns):
                 yield first + number + 1, code, state, after
 
 
-def main():
-    words = [word for word in sys.argv[1:] if word != "--wrong"]
-    client, turns = dpmi.Client(Path(words[0]).read_bytes()), int(words[1]) if len(words) > 1 else 10_000
+def arguments():
+    options = argparse.ArgumentParser(description="Tests a toy emulator's instructions against the host's.")
+    options.add_argument("file", metavar="FILE", type=Path, help="a client, as clients/watch.exe")
+    options.add_argument("turns", metavar="TURNS", type=int, nargs="?", default=10_000, help="how many turns, 10,000 without it")
+    options.add_argument("--wrong", action="store_true", help="the toy forgets the auxiliary carry")
+    return options.parse_args()
+
+
+def first_difference(client, given):
+    """Compares turn by turn, and prints the first turn that differs, or how many agree. Returns whether one differs."""
     agreed = unknown = 0
-    for turn, code, state, after in cases(client, turns):
-        predicted = predict(state, code, "--wrong" in sys.argv)
+    for turn, code, state, after in cases(client, given.turns):
+        predicted = predict(state, code, given.wrong)
         differing = [name for name in COMPARED if predicted and predicted[name] != getattr(after, name)]
         if differing:
             print("turn %d, %04x:%08x, code %s:" % (turn, state.cs, state.eip, code.hex(" ")))
             for name in differing:
                 print("  %s is %08x, then %08x; here %08x" % (name, getattr(state, name), getattr(after, name), predicted[name]))
-            return 1
+            return True
         agreed, unknown = agreed + (predicted is not None), unknown + (predicted is None)
     print("%d instructions agree, %d aren't known to the toy" % (agreed, unknown))
-    return 0
+    return False
+
+
+def main():
+    given = arguments()
+    try:
+        return int(first_difference(dpmi.Client(given.file.read_bytes()), given))
+    except OSError as error:
+        print("example.py: %s: %s" % (error.filename or "the output", error.strerror), file=sys.stderr)
+        return 3 if error.filename else 4
+    except dpmi.Refused as error:
+        print("example.py: %s is refused: %s" % (given.file, error), file=sys.stderr)
+        return 2
 
 
 if __name__ == "__main__":
-    sys.exit(main() if len(sys.argv) > 1 else __doc__)
+    sys.exit(main())

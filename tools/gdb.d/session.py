@@ -24,7 +24,7 @@ def why_not(words):
     if not re.search(r" %d\.\d+" % MAJOR, version):
         return "they are of gdb %d, and here is %s" % (MAJOR, version)
     if not Path(os.environ.get("DPMI_LIBRARY") or TOP / "library" / "out" / "libdpmi.so").exists():
-        return "there is no library (library/build makes it)"
+        return "there is no library (library/quick makes one, library/build a proved one)"
     missing = [word for word in words if word.endswith(".elf") and not (TOP / word).exists()]
     return "there is no %s (clients/c/build makes it)" % missing[0] if missing else None
 
