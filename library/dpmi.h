@@ -40,7 +40,7 @@ enum {
 /* In place of an array without elements, since no pointer may be null. It is a void pointer, so in C++ it needs a cast. */
 #define DPMI_NOTHING ((void *)16)
 
-/* No text is longer than so many bytes: 1,048,576 from the console, and lines of at most 256 bytes: 10,000 of the trace, and one for each
+/* No text has more bytes than this: 1,048,576 from the console, and lines of at most 256 bytes: 10,000 of the trace, and one for each
    descriptor and each memory block. */
 #define DPMI_MOST_TEXT 6291456
 
