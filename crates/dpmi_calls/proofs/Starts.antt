@@ -1,7 +1,8 @@
 -- The world of a run: before its first turn, and after one more.
-use Rattle.std.proofs.Common.{arith, ◌≡◌, ◌∙◌, ◌≤◌, ◌+◌, ℕ, refl, sym, ap, subst, inl, inr, None, Some}
-use Rattle.std.specs.{Prelude.{◌⊎◌, IsSome}, declared.option.Option.{Option}}
-use Rattle.client_world.specs.{WatchWorld.{WatchWorld, Watching, host_without_watches, no_watches}, World.{HostWorld}}
+use Rattle.std.proofs.Common.{arith, ◌≡◌, ◌∙◌, ◌≤◌, ◌+◌, ℕ, false, refl, sym, ap, subst, inl, inr, None, Some}
+use Rattle.std.specs.{Prelude.{◌⊎◌, IsSome}, Option.{is_some}, declared.option.Option.{Option}}
+use Rattle.client_world.specs.{declared.outcome.Exit.{Exit}, WatchWorld.{WatchWorld, Watching, host_without_watches, no_watches}}
+use Rattle.client_world.specs.World.{HostWorld}
 use Rattle.dpmi_calls.specs.{Clients.{ClientGiven, answer_of, client_at_start, given, refusal_of, timer_given}, Runs.{IsRun, every_by}}
 use Rattle.dpmi_calls.specs.{Runs.{every_of, world_by, world_of}, Turns.{before_turns, client_after, host_of, next_turn, turns_from}}
 use Rattle.dpmi_calls.specs.{declared.run.ClientRun.{ClientRun}, declared.start.Client.{Client}}
@@ -21,11 +22,15 @@ host_is r run =
     sym (host_by r.timer (record { host = r.host.world; watching = r.watches })) ∙ ap (λ (w : TimedWorld). w.watched.host) run.world
 
 -- a run in which there is no exit is that of a client that had not ended after as many turns
-pub exit_at : (c : Client) (n : ℕ) (r : ClientRun) → IsRun r → r.client ≡ c → r.turns ≡ n → r.host.world.exit ≡ None →
+exit_by : (o : Option Exit) → is_some o ≡ false → o ≡ None
+exit_by None is = refl
+exit_by (Some exit) is = absurd cc
+
+pub exit_at : (c : Client) (n : ℕ) (r : ClientRun) → IsRun r → r.client ≡ c → r.turns ≡ n → is_some r.host.world.exit ≡ false →
     (host_of (given c) n).exit ≡ None
-exit_at c n r run client turns none =
+exit_at c n r run client turns is =
     ap (λ (h : HostWorld). h.exit) (sym (host_is r run ∙ ap (λ (x : Client). host_of (given x) r.turns) client
-    ∙ ap (host_of (given c)) turns)) ∙ none
+    ∙ ap (host_of (given c)) turns)) ∙ exit_by r.host.world.exit is
 
 -- one more turn
 run_next : (c : ClientGiven) (n : ℕ) (every : Option ℕ) (before after : TimedWorld) → every ≡ timer_given c.timer →

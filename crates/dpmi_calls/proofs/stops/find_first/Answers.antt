@@ -1,4 +1,4 @@
-use Rattle.std.proofs.Common.{arith, ◌∙◌, ◌+◌, ◌-◌, ◌++◌, ap, refl, sym, take}
+use Rattle.{std.proofs.Common.{arith, ◌∙◌, ◌+◌, ◌-◌, ◌++◌, ap, refl, sym, take}, std.specs.Option.{is_some}}
 use Rattle.dpmi_calls.specs.{Clients.{given}, Turns.{host_of}, Stops.{reason_at, stops_by, stops_of, wanted_in}}
 use Rattle.dpmi_calls.specs.declared.start.Client.{Client}
 use Rattle.dpmi_calls.proofs.{Starts.{exit_at}, StopLists.{none_yet, noted, still_goes_on}}
@@ -29,7 +29,8 @@ loop-done-preserved c =
           ++ stops_by (l.run.turns + 1) (reason_at w (host_of (given x)) l.run.turns)) l.invariant.1
           ∙ ap (λ n. take l.made l.stops ++ stops_by (n + 1) (reason_at w (host_of (given c.args.run.now.client)) n)) l.invariant.2),
       still_goes_on w (host_of (given c.args.run.now.client)) c.args.run.now.turns l.done l.made _ l.stops made.length
-          (exit_at c.args.run.now.client l.done l.run l.invariant.0 l.invariant.1 l.invariant.2 c.if-is_some.false)
+          (exit_at c.args.run.now.client l.done l.run l.invariant.0 l.invariant.1 l.invariant.2
+          (ap is_some (sym c.exit.ensures) ∙ sym c.is_some.ensures ∙ c.if-is_some.false))
           (omega (arith, c.if-made-room.false, l.invariant.4)) l.invariant.5 l.invariant.6,
     )
 

@@ -1,4 +1,4 @@
-use Rattle.std.proofs.Common.{arith, ◌≡◌, ◌∙◌, ◌+◌, ◌-◌, None, ap, refl, sym}
+use Rattle.{std.proofs.Common.{arith, ◌≡◌, ◌∙◌, ◌+◌, ◌-◌, None, ap, refl, sym}, std.specs.Option.{is_some}}
 use Rattle.dpmi_calls.specs.{Clients.{given}, Turns.{host_of}, Stops.{last_by, last_of, reason_at, wanted_in}}
 use Rattle.dpmi_calls.specs.declared.start.Client.{Client}
 use Rattle.dpmi_calls.proofs.{Starts.{exit_at}, StopLists.{last_noted, no_last_yet, one_more_turn}}
@@ -19,7 +19,8 @@ loop-done-preserved c =
           ∙ ap (λ (x : Client). last_by l.last (l.run.turns + 1) (reason_at w (host_of (given x)) l.run.turns)) l.invariant.1
           ∙ ap (λ n. last_by l.last (n + 1) (reason_at w (host_of (given c.args.run.now.client)) n)) l.invariant.2),
       one_more_turn (λ n. (host_of (given c.args.run.now.client) n).exit ≡ None) c.args.run.now.turns l.done
-          (exit_at c.args.run.now.client l.done l.run l.invariant.0 l.invariant.1 l.invariant.2 c.if-is_some.false) l.invariant.5,
+          (exit_at c.args.run.now.client l.done l.run l.invariant.0 l.invariant.1 l.invariant.2
+          (ap is_some (sym c.exit.ensures) ∙ sym c.is_some.ensures ∙ c.if-is_some.false)) l.invariant.5,
     )
 
 pub returns-then-is_some-clause-last : goal.returns-then-is_some-clause-last
