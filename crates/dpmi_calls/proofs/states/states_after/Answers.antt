@@ -46,17 +46,17 @@ returns-in-Ok-Err-clause-refused c = λ _.
     inr (inr
     (inr (inr (subst (λ (o : Option Reason). IsSome o) (sym (of_err _ _ _ c.in-Ok-Err.field-0-is c.in-Ok-Err.ensures.refused)) refl))))
 
-pub returns-clause-rows : goal.returns-clause-rows
-returns-clause-rows c = λ e. absurd (omega (arith, e))
+pub returns-in-Err-clause-rows : goal.returns-in-Err-clause-rows
+returns-in-Err-clause-rows c = λ e. absurd (omega (arith, e))
 
-pub returns-clause-memory : goal.returns-clause-memory
-returns-clause-memory c = λ e. absurd (omega (arith, e))
+pub returns-in-Err-clause-memory : goal.returns-in-Err-clause-memory
+returns-in-Err-clause-memory c = λ e. absurd (omega (arith, e))
 
-pub returns-clause-taken : goal.returns-clause-taken
-returns-clause-taken c = λ e. absurd (omega (arith, e))
+pub returns-in-Err-clause-taken : goal.returns-in-Err-clause-taken
+returns-in-Err-clause-taken c = λ e. absurd (omega (arith, e))
 
-pub returns-clause-refused : goal.returns-clause-refused
-returns-clause-refused c = λ e. absurd (omega (arith, e))
+pub returns-in-Err-clause-refused : goal.returns-in-Err-clause-refused
+returns-in-Err-clause-refused c = λ e. absurd (omega (arith, e))
 
 -- ---- a length isn't as it should be, or the turns aren't in order
 
