@@ -1,17 +1,17 @@
 ; Files that the loader refuses, one for each reason. The lines are as in asks.asm.
-;: -DSHORT
+;: 2 -DSHORT
 ;= It isn't run: the file has fewer than 28 bytes, the length of an MZ header.
-;: -DSIGNATURE=5A4Eh
+;: 2 -DSIGNATURE=5A4Eh
 ;= It isn't run: it doesn't begin with MZ.
-;: -DLAST=513
+;: 2 -DLAST=513
 ;= It isn't run: the header's count of pages is 0, the bytes of its last page are more than 512, or the header is longer than they are.
-;: -DRELOCATIONS=100
+;: 2 -DRELOCATIONS=100
 ;= It isn't run: the relocation table passes the end of the file.
-;: -DMINIMUM=0A000h
+;: 2 -DMINIMUM=0A000h
 ;= It isn't run: the program doesn't fit into DOS memory.
-;: -DRELOCATIONS=1 -DTARGET=0FFFFh
+;: 2 -DRELOCATIONS=1 -DTARGET=0FFFFh
 ;= It isn't run: a relocation lies outside the program's memory.
-;: -DENTRY=0FFF0h
+;: 2 -DENTRY=0FFF0h
 ;= It isn't run: the first instruction lies outside the program's memory.
 %ifndef SIGNATURE
 %define SIGNATURE 5A4Dh

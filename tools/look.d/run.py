@@ -1,4 +1,4 @@
-"""A run of `dpmi run`, read from its text."""
+"""A run of `dpmi run`, read from its text; and what the client's memory held at its end, where there is the library."""
 
 import os
 import re
@@ -16,6 +16,8 @@ SEGMENT, IMAGE = 0x74, 0x740  # where the image of a file is loaded: the segment
 def program():
     """The program that DPMI_PROGRAM names, or the newer of the two that may be built."""
     given = os.environ.get("DPMI_PROGRAM")
+    if given and not os.access(given, os.X_OK):
+        sys.exit("DPMI_PROGRAM names no program: %s" % given)
     built = [path for path in (PROVED, UNPROVED) if os.access(path, os.X_OK)]
     if not given and not built:
         sys.exit("there is no program yet: ./dpmi compiles one, ./prove proves it")
@@ -63,6 +65,28 @@ class Run:
         return descriptor and descriptor["base"]
 
 
+def library():
+    """The library's module for Python, or nothing where there is no library."""
+    if str(TOP / "library") not in sys.path:
+        sys.path.append(str(TOP / "library"))
+    try:
+        import dpmi
+    except ImportError:
+        return None
+    return dpmi
+
+
+def memory(words, turn, at, size):
+    """The bytes that a client sees after a turn, from the library; or nothing where there is none."""
+    dpmi = library()
+    if dpmi is None:
+        return None
+    keys, name = bytes.fromhex(option_of(words, "keys") or ""), option_of(words, "keys-file")
+    pages, timer = option_of(words, "pages") or 1024, option_of(words, "timer") or 0
+    client = dpmi.Client(Path(file_of(words)).read_bytes(), Path(name).read_bytes() if name else keys, int(pages), int(timer))
+    return client.memory(turn, at, size)
+
+
 def without(words, name):
     """The words without an option and its value."""
     left, skip = [], False
@@ -77,7 +101,7 @@ def without(words, name):
 
 
 def file_of(words):
-    """The name of the client's file: the word that is no option and no option's value."""
+    """The name of the client's file: the argument that is no option and no option's value."""
     skip = False
     for word in words:
         if skip:
@@ -87,6 +111,29 @@ def file_of(words):
         else:
             return word
     return None
+
+
+def option_of(words, name):
+    """The value of an option of `dpmi run`, or nothing."""
+    for word, following in zip(words, [*words[1:], None]):
+        if word == "--" + name:
+            return following
+        if word.startswith("--%s=" % name):
+            return word.partition("=")[2]
+    return None
+
+
+def put(text):
+    """Writes to standard output, and returns the status: 4 where that fails, as `dpmi` does."""
+    data = text.encode("utf-8", "replace")
+    try:
+        while data:
+            data = data[os.write(1, data):]
+    except OSError as error:
+        if not isinstance(error, BrokenPipeError):
+            print("the output failed: %s" % error.strerror, file=sys.stderr)
+        return 4
+    return 0
 
 
 def image_of(name):
