@@ -1,5 +1,5 @@
 ; 512 memory blocks of a page are held, and the last one is freed and made again: each time the first gap and the lowest handle are sought.
-;   nasm -f bin -I ../clients/ -D WIDTH=16 blocks.asm -o blocks16.exe          in protected mode alone; WIDTH=32 for blocks32.exe
+;     nasm -f bin -I ../clients/ -DWIDTH=16 blocks.asm -o blocks16.exe          # in protected mode alone; WIDTH=32 is for 32 bits
 %include "exe.inc"
 %include "mode.inc"
     mov dx, 512

@@ -1,4 +1,5 @@
-; ADD, XOR, INC, DEC and JNZ: 20 times 65,535 rounds.   nasm -f bin -I ../clients/ loop.asm -o loop.exe
+; ADD, XOR, INC, DEC and JNZ: 20 times 65,535 rounds, in real mode.
+;     nasm -f bin -I ../clients/ loop.asm -o loop.exe
 %include "exe.inc"
 %include "mode.inc"
 %ifndef ROUNDS

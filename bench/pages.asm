@@ -1,6 +1,6 @@
 ; 511 memory blocks of a page and one of 500 pages are held; the pages of the last one are locked, unlocked, marked and discarded, again and
 ; again.
-;   nasm -f bin -I ../clients/ -D WIDTH=16 pages.asm -o pages16.exe            in protected mode alone; WIDTH=32 for pages32.exe
+;     nasm -f bin -I ../clients/ -DWIDTH=16 pages.asm -o pages16.exe            # in protected mode alone; WIDTH=32 is for 32 bits
 %include "exe.inc"
 %include "mode.inc"
     mov dx, 511

@@ -1,5 +1,7 @@
 ; Memory, calls and the stack: 6 times 65,535 calls of a procedure with a frame, which adds two arguments to a variable.
-;   nasm -f bin -I ../clients/ procedures.asm -o procedures.exe
+;     nasm -f bin -I ../clients/ procedures.asm -o procedures.exe                    # in real mode
+;     nasm -f bin -I ../clients/ -DWIDTH=16 procedures.asm -o procedures16.exe       # in protected mode, as a client of 16 bits
+;     nasm -f bin -I ../clients/ -DWIDTH=32 procedures.asm -o procedures32.exe       # or of 32 bits
 %include "exe.inc"
     mov ax, cs
     mov ds, ax

@@ -1,4 +1,7 @@
-; Register arithmetic and loops: 20 times 65,535 rounds of seven instructions.   nasm -f bin -I ../clients/ registers.asm -o registers.exe
+; Register arithmetic and loops: 20 times 65,535 rounds of seven instructions.
+;     nasm -f bin -I ../clients/ registers.asm -o registers.exe                    # in real mode
+;     nasm -f bin -I ../clients/ -DWIDTH=16 registers.asm -o registers16.exe       # in protected mode, as a client of 16 bits
+;     nasm -f bin -I ../clients/ -DWIDTH=32 registers.asm -o registers32.exe       # or of 32 bits
 %include "exe.inc"
 %include "mode.inc"
 %ifndef ROUNDS

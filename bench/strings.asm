@@ -1,5 +1,7 @@
 ; Strings with REP and prefixes: 40 rounds of copies, fills, searches and comparisons over 32 KB, by bytes, words and doublewords.
-;   nasm -f bin -I ../clients/ strings.asm -o strings.exe
+;     nasm -f bin -I ../clients/ strings.asm -o strings.exe                    # in real mode
+;     nasm -f bin -I ../clients/ -DWIDTH=16 strings.asm -o strings16.exe       # in protected mode, as a client of 16 bits
+;     nasm -f bin -I ../clients/ -DWIDTH=32 strings.asm -o strings32.exe       # or of 32 bits
 %include "exe.inc"
 %include "mode.inc"
 %ifdef WIDTH

@@ -1,5 +1,6 @@
 ; The loop of registers.asm with sixteen watchpoints on a word that it doesn't touch: each instruction is compared with them.
-;   nasm -f bin -I ../clients/ -D WIDTH=16 watched.asm -o watched16.exe        # in protected mode alone; WIDTH=32 for watched32.exe
+;     nasm -f bin -I ../clients/ -DWIDTH=16 watched.asm -o watched16.exe        # in protected mode alone, with 16 bits
+;     nasm -f bin -I ../clients/ -DWIDTH=32 watched.asm -o watched32.exe        # or with 32
 %include "exe.inc"
 %include "mode.inc"
     mov bp, 16
